@@ -1,0 +1,15 @@
+-- Files by name. Of a name that stands twice the first counts.
+use Rattle.std.specs.Prelude.{ℕ, suc, List, [], ◌∷◌, Option, Some, None, if◌then◌else◌}
+use Rattle.std.specs.Option.{option_map}
+use Rattle.std.specs.Str.{bytes_eq}
+use Rattle.gdi_kinds.specs.declared.named_bytes.NamedBytes.{NamedBytes}
+
+-- the place of the file of this name, from 0
+abbrev pub place_of : List NamedBytes → List ℕ → Option ℕ
+place_of [] name = None
+place_of (file ∷ files) name = if bytes_eq file.name name then Some 0 else option_map suc (place_of files name)
+
+-- what the file of this name holds: nothing where the name isn't held
+abbrev pub bytes_of : List NamedBytes → List ℕ → List ℕ
+bytes_of [] name = []
+bytes_of (file ∷ files) name = if bytes_eq file.name name then file.bytes else bytes_of files name

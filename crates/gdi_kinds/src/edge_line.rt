@@ -1,0 +1,10 @@
+/// One end of an edge, as seen from the vertex at that end.
+#[derive(Clone, Copy, Debug, PartialEq, Eq)]
+pub struct EdgeLine {
+    /// Whether the vertex is the target. A self loop has a line of either kind.
+    pub inward: bool,
+    pub source: u64,
+    /// The number of the edge among those that its source has had, from 0.
+    pub ordinal: u64,
+    pub target: u64,
+}

@@ -1,0 +1,11 @@
+use crate::CallList;
+
+/// A transaction as a script has it.
+#[derive(Debug, Drop)]
+pub struct Txn {
+    /// Whether it looks at the whole graph. Such a transaction holds whole-graph calls alone, and any other holds none.
+    pub whole: bool,
+    pub calls: CallList,
+    /// Whether its text ends with an abort.
+    pub aborts: bool,
+}
