@@ -1,5 +1,5 @@
 -- Counts of faults. A count is a number of 64 bits that never falls.
-use Rattle.std.specs.Prelude.{ℕ, ◌+◌, ◌-◌, ◌^◌, ◌≤◌, min, Result, OnErr}
+use Rattle.std.specs.Prelude.{ℕ, ◌+◌, ◌-◌, ◌^◌, ◌≤◌, min, Result, OnErr, is_err, if◌then◌else◌}
 
 -- the last number of 64 bits
 abbrev pub last_count : ℕ
@@ -13,3 +13,7 @@ Rose before now = min (before + 1) last_count ≤ now
 pub record HasCause {T E : Type 0} (before now : ℕ) (result : Result T E) : Type 0 where
   pub later : before ≤ now
   pub failed : OnErr result (Rose before now)
+
+-- the count after a call that raises it exactly where it fails
+abbrev pub faults_after : {T E : Type 0} → Result T E → ℕ → ℕ
+faults_after result before = if is_err result then min (before + 1) last_count else before

@@ -1,5 +1,5 @@
 -- What is known of a shelf of files, and what its calls do to it.
-use Rattle.std.specs.Prelude.{◌≡◌, ℕ, ◌+◌, ◌<◌, ◌≤◌, min, Bool, IsTrue, List, [], length, take, drop, Option, Some, None, IfSome, IfNone, Result, OnOk, OnErr, IfOk, is_err, ◌↔◌}
+use Rattle.std.specs.Prelude.{◌≡◌, ℕ, ◌+◌, ◌≤◌, min, Bool, IsTrue, List, [], length, take, drop, Option, Some, None, IfSome, IfNone, Result, OnOk, OnErr, IfOk, is_err, ◌↔◌}
 use Rattle.gdi_kinds.specs.declared.named_bytes.NamedBytes.{NamedBytes}
 use Rattle.gdi_io.specs.Faults.{HasCause, last_count}
 use Rattle.gdi_io.specs.Files.{place_of, bytes_of}
@@ -21,6 +21,17 @@ pub record Told : Type 0 where
 -- a shelf that tells its files tells the place too, and a shelf that doesn't never will
 abbrev pub IsTold : Told → Type 0
 IsTold shelf = IfNone shelf.files (shelf.at ≡ None)
+
+-- a shelf that tells nothing of its files
+abbrev pub silent : ℕ → Bool → ℕ → Told
+silent faults halted given = record {
+  faults = faults;
+  halted = halted;
+  given = given;
+  files = None;
+  at = None;
+  left = None;
+}
 
 -- its last call failed and, where told, the file last selected is this one
 pub record IsHaltedAt (shelf : Told) (name : List ℕ) : Type 0 where

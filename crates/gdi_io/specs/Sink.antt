@@ -1,5 +1,5 @@
 -- What is known of a sink of bytes, and what a write does to it.
-use Rattle.std.specs.Prelude.{◌≡◌, ℕ, ◌≤◌, List, ◌++◌, length, take, Option, Some, IsSome, IfSome, Result, OnErr, IfOk}
+use Rattle.std.specs.Prelude.{◌≡◌, ℕ, ◌≤◌, List, ◌++◌, length, take, Option, Some, None, IsSome, IfSome, Result, OnErr, IfOk}
 use Rattle.gdi_io.specs.Faults.{HasCause}
 
 pub record Taken : Type 0 where
@@ -7,6 +7,10 @@ pub record Taken : Type 0 where
   pub faults : ℕ
   -- the bytes taken so far, where told
   pub taken : Option (List ℕ)
+
+-- a sink that doesn't tell what it took
+abbrev pub untold : ℕ → Taken
+untold faults = record { faults = faults; taken = None }
 
 -- new has taken more bytes than old, where told
 abbrev pub Takes : Taken → Taken → List ℕ → Type 0

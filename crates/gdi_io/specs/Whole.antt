@@ -1,6 +1,5 @@
 -- Reading a whole file, and writing all of a text.
-use Rattle.std.specs.Prelude.{◌≡◌, ℕ, ◌<◌, ◌≤◌, ◌↔◌, List, length, take, IfSome, Result, Ok, Err, OnOk, OnErr, IfOk, IsErrOf}
-use Rattle.gdi_kinds.specs.declared.no_memory.NoMemory.{NoMemory}
+use Rattle.std.specs.Prelude.{◌≡◌, ℕ, ◌<◌, ◌≤◌, ◌↔◌, List, length, take, IfSome, Result, OnOk, OnErr, IfOk, IsErrOf, IsTrue}
 use Rattle.gdi_io.specs.declared.refused.ReadRefused.{ReadRefused}
 use Rattle.gdi_io.specs.declared.refused.ReadRefused.TheVariants as refused
 use Rattle.gdi_io.specs.Faults.{HasCause, Rose}
@@ -19,8 +18,12 @@ pub record ReadsAll (old new : Told) (name : List ℕ) (result : Result (List �
   -- where told, it is the whole file
   pub whole : IfOk result (λ bytes. IfSome old.files (λ files. bytes ≡ bytes_of files name))
   pub short : IfOk result (λ bytes. length bytes ≤ longest_file)
+  -- told or not, these are as many bytes as were read
+  pub given : IfOk result (λ bytes. new.given ≡ length bytes)
   pub failed : IsErrOf result refused.Failed → Rose old.faults new.faults
   pub halted : IsErrOf result refused.Failed → IsHaltedAt new name
+  -- a shelf that failed is told of, and of nothing else
+  pub halted_only : IsTrue new.halted → IsErrOf result refused.Failed
   -- too long is answered exactly where one byte past the longest file was read
   pub too_long : IsErrOf result refused.TooLong ↔ (longest_file < new.given)
   pub longer : IsErrOf result refused.TooLong → IfSome old.files (λ files. longest_file < length (bytes_of files name))

@@ -15,8 +15,20 @@ const PIECE: usize = 65_536;
 pub fn read_all<F: Shelf>(alloc: Global, shelf: &mut F, name: &str) -> Result<Bytes, ReadRefused>
     ensures { ReadsAll (F.told shelf.old) (F.told shelf.new) name.now result }
 {
-    let _ = (alloc, shelf, name);
-    Err(ReadRefused::NoMemory)
+    shelf.select(name)?;
+    let mut buffer = vec![in alloc; 0u8; PIECE]?;
+    let piece = buffer.as_mut_slice();
+    let mut bytes = Vec::new(alloc);
+    loop {
+        let count = shelf.read(piece)?;
+        if count == 0 {
+            return Ok(Bytes::from_vec(bytes));
+        }
+        if count > LONGEST_FILE - bytes.len() {
+            return Err(ReadRefused::TooLong);
+        }
+        bytes.extend_from_slice(&piece[..count])?;
+    }
 }
 
 /// Writes all of the bytes. It takes no memory. `Failed` comes only where the sink failed; what was taken is then a
@@ -24,6 +36,9 @@ pub fn read_all<F: Shelf>(alloc: Global, shelf: &mut F, name: &str) -> Result<By
 pub fn write_all<K: Sink>(out: &mut K, bytes: &[u8]) -> Result<(), Failed>
     ensures { WritesAll (K.taken out.old) (K.taken out.new) bytes.now result }
 {
-    let _ = (out, bytes);
-    Err(Failed)
+    let mut taken = 0;
+    while taken < bytes.len() {
+        taken += out.write(&bytes[taken..])?;
+    }
+    Ok(())
 }

@@ -1,2 +1,3 @@
+pub mod Constraint
 pub mod Names
 pub mod Texts

@@ -1,4 +1,5 @@
-use crate::{Kind, Name, Test, Value};
+use crate::{Duplicate, Kind, Name, NoMemory, Test, Value};
+use std::alloc::Global;
 
 /// Which edges of a vertex are meant: those from it, those to it, or both.
 #[derive(Clone, Copy, Debug, PartialEq, Eq)]
@@ -134,4 +135,55 @@ pub enum Call {
     },
     Vertices,
     Arcs,
+}
+
+// The copy of a call, variant by variant: in each the fields that are `Copy`, and after `;` one that takes memory.
+macro_rules! copy_of {
+    ($call:expr, $alloc:expr; $($variant:ident { $($plain:ident),* $(; $held:ident)? })*) => {
+        match $call {
+            $(Call::$variant { $($plain,)* $($held,)? } => Call::$variant {
+                $($plain: *$plain,)*
+                $($held: $held.copy($alloc)?,)?
+            },)*
+        }
+    };
+}
+
+impl Duplicate for Call {
+    fn copy(&self, alloc: Global) -> Result<Call, NoMemory> {
+        Ok(copy_of!(self, alloc;
+            NewLabel { name }
+            NewType { name, kind }
+            Vertex { id }
+            Has { id }
+            DropVertex { id }
+            Tag { id, label }
+            Untag { id, label }
+            Tags { id }
+            Set { id, prop; value }
+            Get { id, prop }
+            Unset { id, prop }
+            Props { id }
+            Edge { source, target, label }
+            Cut { source, ordinal }
+            Target { source, ordinal }
+            ETag { source, ordinal, label }
+            EUntag { source, ordinal, label }
+            ETags { source, ordinal }
+            ESet { source, ordinal, prop; value }
+            EGet { source, ordinal, prop }
+            EUnset { source, ordinal, prop }
+            EProps { source, ordinal }
+            Edges { id, dir; test }
+            Near { id, dir }
+            Degree { id, dir }
+            Find { label; test }
+            Hood { id, depth }
+            Levels { id }
+            Parts {}
+            Scan { label; test }
+            Vertices {}
+            Arcs {}
+        ))
+    }
 }

@@ -1,6 +1,6 @@
 ghost use Rattle.std.specs.Prelude.{◌≡◌, IfOk};
 
-use crate::NoMemory;
+use crate::{Duplicate, NoMemory};
 use std::alloc::Global;
 use std::marker::Model;
 
@@ -34,5 +34,11 @@ impl CommandWord {
         ensures { result.now ≡ self.now }
     {
         self.text.as_str()
+    }
+}
+
+impl Duplicate for CommandWord {
+    fn copy(&self, alloc: Global) -> Result<CommandWord, NoMemory> {
+        CommandWord::of(alloc, self.text())
     }
 }

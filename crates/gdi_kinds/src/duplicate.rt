@@ -27,3 +27,12 @@ impl Duplicate for u64 {
         Ok(*self)
     }
 }
+
+impl<T: Duplicate + Drop> Duplicate for Option<T> {
+    fn copy(&self, alloc: Global) -> Result<Option<T>, NoMemory> {
+        match self {
+            Some(x) => Ok(Some(x.copy(alloc)?)),
+            None => Ok(None),
+        }
+    }
+}

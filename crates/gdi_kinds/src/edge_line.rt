@@ -1,3 +1,6 @@
+use crate::{Duplicate, NoMemory};
+use std::alloc::Global;
+
 /// One end of an edge, as seen from the vertex at that end.
 #[derive(Clone, Copy, Debug, PartialEq, Eq)]
 pub struct EdgeLine {
@@ -7,4 +10,10 @@ pub struct EdgeLine {
     /// The number of the edge among those that its source has had, from 0.
     pub ordinal: u64,
     pub target: u64,
+}
+
+impl Duplicate for EdgeLine {
+    fn copy(&self, _alloc: Global) -> Result<EdgeLine, NoMemory> {
+        Ok(*self)
+    }
 }

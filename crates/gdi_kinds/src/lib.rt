@@ -15,6 +15,8 @@ mod outcome;
 mod pair;
 mod prop_line;
 mod reply;
+#[cfg(test)]
+mod tests;
 mod text;
 mod txn;
 mod value;

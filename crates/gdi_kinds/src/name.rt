@@ -1,3 +1,9 @@
+ghost use Rattle.std.specs.Prelude.{◌≡◌, ◌≤◌, length, MatchOption};
+ghost use Rattle.std.specs.List.{list_all};
+ghost use Rattle.gdi_kinds.specs.Names.{IsName, begins_name, continues_name, is_name, padded};
+
+use crate::{Duplicate, NoMemory};
+use std::alloc::Global;
 use std::marker::Model;
 
 const MAX_BYTES: usize = 63;
@@ -21,4 +27,71 @@ impl Model for Name {
     ghost invariant = { λ name. IsPaddedName name.len name.bytes };
 
     ghost inverse = { λ bytes. record { len = Rattle.std.specs.Prelude.length bytes; bytes = padded bytes } };
+}
+
+impl Name {
+    /// The name with these bytes. There is none exactly where they are no name.
+    pub fn of(bytes: &[u8]) -> Option<Name>
+        ensures { MatchOption result (¬ IsName bytes.now) (λ name. (name ≡ bytes.now) × IsName bytes.now) }
+    {
+        if !is_name(bytes) {
+            return None;
+        }
+        Some(Name {
+            len: bytes.len() as u8,
+            bytes: padded(bytes),
+        })
+    }
+
+    /// The bytes, 1 to 63.
+    pub fn bytes(&self) -> &[u8]
+        ensures value { result.now ≡ self.now }
+        ensures name { IsName self.now }
+    {
+        &self.bytes[..usize::from(self.len)]
+    }
+}
+
+impl Duplicate for Name {
+    fn copy(&self, _alloc: Global) -> Result<Name, NoMemory> {
+        Ok(*self)
+    }
+}
+
+fn is_name(bytes: &[u8]) -> bool
+    ensures { result ≡ is_name bytes.now }
+{
+    match bytes.split_first() {
+        Some((first, rest)) => {
+            begins_name(*first) && all_continue_name(rest) && rest.len() < MAX_BYTES
+        }
+        None => false,
+    }
+}
+
+fn all_continue_name(bytes: &[u8]) -> bool
+    ensures { result ≡ list_all continues_name bytes.now }
+{
+    bytes.iter().all(|b| continues_name(*b))
+}
+
+fn padded(bytes: &[u8]) -> [u8; MAX_BYTES]
+    requires { length bytes.now ≤ MAX_BYTES }
+    ensures { result ≡ padded bytes.now }
+{
+    let mut field = [0; MAX_BYTES];
+    field[..bytes.len()].copy_from_slice(bytes);
+    field
+}
+
+fn begins_name(b: u8) -> bool
+    ensures { result ≡ begins_name b }
+{
+    b.is_ascii_alphabetic() || b == b'_'
+}
+
+fn continues_name(b: u8) -> bool
+    ensures { result ≡ continues_name b }
+{
+    begins_name(b) || b.is_ascii_digit()
 }

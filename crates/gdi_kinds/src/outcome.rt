@@ -1,4 +1,5 @@
-use crate::{LineList, ReplyList};
+use crate::{Duplicate, LineList, NoMemory, ReplyList};
+use std::alloc::Global;
 
 /// How a transaction ended.
 #[derive(Debug, Drop)]
@@ -29,4 +30,34 @@ pub struct Printed {
     pub lines: LineList,
     /// How many entries the history has, those of the load included.
     pub writes: u64,
+}
+
+impl Duplicate for Outcome {
+    fn copy(&self, alloc: Global) -> Result<Outcome, NoMemory> {
+        Ok(match self {
+            Outcome::Wrote { k, replies } => Outcome::Wrote {
+                k: *k,
+                replies: replies.copy(alloc)?,
+            },
+            Outcome::Read { place, replies } => Outcome::Read {
+                place: *place,
+                replies: replies.copy(alloc)?,
+            },
+            Outcome::Aborted => Outcome::Aborted,
+            Outcome::Full { rank, place } => Outcome::Full {
+                rank: *rank,
+                place: *place,
+            },
+        })
+    }
+}
+
+impl Duplicate for Line {
+    fn copy(&self, alloc: Global) -> Result<Line, NoMemory> {
+        Ok(Line {
+            section: self.section,
+            txn: self.txn,
+            outcome: self.outcome.copy(alloc)?,
+        })
+    }
 }

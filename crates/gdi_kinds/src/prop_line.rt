@@ -1,8 +1,18 @@
-use crate::{Name, Value};
+use crate::{Duplicate, Name, NoMemory, Value};
+use std::alloc::Global;
 
 /// A property: the name of its type, and its value.
 #[derive(Debug, Drop)]
 pub struct PropLine {
     pub name: Name,
     pub value: Value,
+}
+
+impl Duplicate for PropLine {
+    fn copy(&self, alloc: Global) -> Result<PropLine, NoMemory> {
+        Ok(PropLine {
+            name: self.name,
+            value: self.value.copy(alloc)?,
+        })
+    }
 }

@@ -1,4 +1,5 @@
-use crate::{EdgeList, NameList, NumList, PairList, PropList, Value};
+use crate::{Duplicate, EdgeList, NameList, NoMemory, NumList, PairList, PropList, Value};
+use std::alloc::Global;
 
 /// The graph's answer to a call. A refusal is an answer too, and ends no transaction.
 #[derive(Debug, Drop)]
@@ -32,4 +33,33 @@ pub enum Reply {
     /// The least identifier of each component, with its size.
     Parts(PairList),
     Count(u64),
+}
+
+impl Duplicate for Reply {
+    fn copy(&self, alloc: Global) -> Result<Reply, NoMemory> {
+        Ok(match self {
+            Reply::Done => Reply::Done,
+            Reply::Yes => Reply::Yes,
+            Reply::No => Reply::No,
+            Reply::Exists => Reply::Exists,
+            Reply::NoVertex(id) => Reply::NoVertex(*id),
+            Reply::NoEdge => Reply::NoEdge,
+            Reply::NoLabel => Reply::NoLabel,
+            Reply::NoType => Reply::NoType,
+            Reply::NoProp => Reply::NoProp,
+            Reply::WrongKind => Reply::WrongKind,
+            Reply::HasLabel => Reply::HasLabel,
+            Reply::LacksLabel => Reply::LacksLabel,
+            Reply::TooLarge => Reply::TooLarge,
+            Reply::EdgeIs(source, ordinal) => Reply::EdgeIs(*source, *ordinal),
+            Reply::Labels(names) => Reply::Labels(names.copy(alloc)?),
+            Reply::Props(props) => Reply::Props(props.copy(alloc)?),
+            Reply::Value(value) => Reply::Value(value.copy(alloc)?),
+            Reply::Edges(edges) => Reply::Edges(edges.copy(alloc)?),
+            Reply::Ids(ids) => Reply::Ids(ids.copy(alloc)?),
+            Reply::Levels(levels) => Reply::Levels(levels.copy(alloc)?),
+            Reply::Parts(parts) => Reply::Parts(parts.copy(alloc)?),
+            Reply::Count(count) => Reply::Count(*count),
+        })
+    }
 }

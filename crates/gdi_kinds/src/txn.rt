@@ -1,4 +1,5 @@
-use crate::CallList;
+use crate::{CallList, Duplicate, NoMemory};
+use std::alloc::Global;
 
 /// A transaction as a script has it.
 #[derive(Debug, Drop)]
@@ -8,4 +9,14 @@ pub struct Txn {
     pub calls: CallList,
     /// Whether its text ends with an abort.
     pub aborts: bool,
+}
+
+impl Duplicate for Txn {
+    fn copy(&self, alloc: Global) -> Result<Txn, NoMemory> {
+        Ok(Txn {
+            whole: self.whole,
+            calls: self.calls.copy(alloc)?,
+            aborts: self.aborts,
+        })
+    }
 }

@@ -1,4 +1,5 @@
-use crate::Text;
+use crate::{Duplicate, NoMemory, Text};
+use std::alloc::Global;
 
 /// What a property type's values are.
 #[derive(Clone, Copy, Debug, PartialEq, Eq)]
@@ -14,4 +15,14 @@ pub enum Value {
     Int(i64),
     Bool(bool),
     Text(Text),
+}
+
+impl Duplicate for Value {
+    fn copy(&self, alloc: Global) -> Result<Value, NoMemory> {
+        match self {
+            Value::Int(int) => Ok(Value::Int(*int)),
+            Value::Bool(bool) => Ok(Value::Bool(*bool)),
+            Value::Text(text) => Ok(Value::Text(text.copy(alloc)?)),
+        }
+    }
 }

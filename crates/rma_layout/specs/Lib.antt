@@ -1,3 +1,4 @@
 pub mod Shape
 pub mod Ranges
 pub mod Placement
+pub mod Words

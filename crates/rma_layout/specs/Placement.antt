@@ -1,5 +1,5 @@
 -- Where things are: on which rank, and in which block there.
-use Rattle.std.specs.Prelude.{ℕ, ◌+◌, ◌/◌, ◌%◌, ◌<◌, Bool, ◌&&◌, ◌==◌}
+use Rattle.std.specs.Prelude.{ℕ, ◌+◌, ◌*◌, ◌/◌, ◌%◌, ◌^◌, ◌<◌, Bool, ◌&&◌, ◌==◌}
 use Rattle.rma_layout.specs.Shape.{Shape, reserved_blocks}
 
 -- a block, which is an object's first one where it names the object
@@ -9,6 +9,18 @@ pub record Place : Type 0 where
 
 abbrev pub same_place : Place → Place → Bool
 same_place p q = p.rank == q.rank && p.block == q.block
+
+-- the one word that names a place
+abbrev pub raw_of : Place → ℕ
+raw_of place = place.rank * 2 ^ 48 + place.block
+
+-- a place that one word can name
+abbrev pub FitsOneWord : Place → Type 0
+FitsOneWord place = (place.rank < 2 ^ 16) × (place.block < 2 ^ 48)
+
+-- a block of a window of this shape
+abbrev pub IsBlock : Shape → Place → Type 0
+IsBlock shape place = (place.rank < shape.ranks) × (place.block < shape.blocks)
 
 -- the rank of a vertex
 abbrev pub home_of : Shape → ℕ → ℕ

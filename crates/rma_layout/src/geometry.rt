@@ -1,6 +1,9 @@
 ghost use Rattle.std.specs.Prelude.{◌≡◌, Some, None, MatchResult};
 ghost use Rattle.rma_layout.specs.Shape.{Shape, default_shape};
-ghost use Rattle.rma_layout.specs.Ranges.{refusal_of};
+ghost use Rattle.rma_layout.specs.Ranges.{is_between, refusal_of, IsInRange};
+
+mod numbers;
+mod placement;
 
 use std::marker::Model;
 
@@ -32,16 +35,15 @@ pub enum BadGeometry {
 }
 
 impl Model for Geometry {
-    ghost use Rattle.std.specs.Prelude.{◌≡◌, None};
     ghost use Rattle.rma_layout.specs.Shape.{Shape};
 
     ghost Value = { Shape };
 
-    ghost use Rattle.rma_layout.specs.Ranges.{refusal_of};
+    ghost use Rattle.rma_layout.specs.Ranges.{IsInRange};
 
     ghost view = { λ g. record { ranks = g.ranks; blocks = g.blocks; words = g.words; buckets = g.buckets; slots = g.slots } };
 
-    ghost invariant = { λ g. refusal_of (record { ranks = g.ranks; blocks = g.blocks; words = g.words; buckets = g.buckets; slots = g.slots }) ≡ None };
+    ghost invariant = { λ g. IsInRange (record { ranks = g.ranks; blocks = g.blocks; words = g.words; buckets = g.buckets; slots = g.slots }) };
 
     ghost inverse = { λ s. record { ranks = s.ranks; blocks = s.blocks; words = s.words; buckets = s.buckets; slots = s.slots } };
 }
@@ -61,19 +63,19 @@ impl Geometry {
         ensures { let shape : Shape = record { ranks = ranks; blocks = blocks; words = words; buckets = buckets; slots = slots } in
             MatchResult result (λ made. (made ≡ shape) × (refusal_of shape ≡ None)) (λ bad. refusal_of shape ≡ Some bad) }
     {
-        if !(1..=64).contains(&ranks) {
+        if !is_between(1, 64, ranks) {
             return Err(BadGeometry::TooManyRanks);
         }
-        if !(8..=64).contains(&words) {
+        if !is_between(8, 64, words) {
             return Err(BadGeometry::BadWords);
         }
-        if !(1..=4096).contains(&buckets) {
+        if !is_between(1, 4096, buckets) {
             return Err(BadGeometry::BadBuckets);
         }
-        if !(1..=64).contains(&slots) {
+        if !is_between(1, 64, slots) {
             return Err(BadGeometry::BadSlots);
         }
-        if !(1 + buckets + slots..=1_048_575).contains(&blocks) {
+        if !is_between(1 + buckets + slots, 1_048_575, blocks) {
             return Err(BadGeometry::BadBlocks);
         }
         if ranks * blocks * (words + 4) + ranks + 2 > 67_108_864 {
@@ -100,6 +102,13 @@ impl Geometry {
             buckets: 64,
             slots: 16,
         }
+    }
+
+    /// Every geometry keeps the ranges.
+    pub fn keeps_ranges(&self)
+        ensures { IsInRange self.now }
+    {
+        let _ = &self.ranks;
     }
 
     /// The ranks, 1 to 64.
@@ -136,4 +145,11 @@ impl Geometry {
     {
         self.slots
     }
+}
+
+/// Whether a number is from `low` to `high`.
+fn is_between(low: u64, high: u64, n: u64) -> bool
+    ensures { result ≡ is_between low high n }
+{
+    (low..=high).contains(&n)
 }

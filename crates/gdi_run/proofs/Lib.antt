@@ -1,0 +1,8 @@
+mod FirstLine
+mod Identifiers
+mod Leads
+mod Parts
+mod PlainRuns
+mod SerialIsLegal
+mod Sound
+mod TokenOf

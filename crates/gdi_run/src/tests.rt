@@ -1,0 +1,126 @@
+use crate::{FileKind, Status, UsageKind, gdi_main};
+use gdi_io::{MemShelf, MemSink};
+use gdi_kinds::{Bytes, CommandWord, CommandWordList, FileList, NamedBytes, NumList};
+use std::alloc::Global;
+use std::process::Abort;
+use std::test::Fail;
+
+fn bytes_of(alloc: Global, text: &str) -> Result<Bytes, Fail> {
+    Ok(Bytes::from_vec(Vec::from_slice(alloc, text.as_bytes())?))
+}
+
+fn words_of(alloc: Global, words: &[&str]) -> Result<CommandWordList, Fail> {
+    let mut list = CommandWordList::new(alloc);
+    for word in words {
+        list.push(CommandWord::of(alloc, word)?)?;
+    }
+    Ok(list)
+}
+
+// A shelf with one file, named `s`, whose calls of these numbers fail.
+fn shelf_with(alloc: Global, bytes: Bytes, fails: &[u64]) -> Result<MemShelf, Fail> {
+    let mut files = FileList::new(alloc);
+    files.push(NamedBytes {
+        name: bytes_of(alloc, "s")?,
+        bytes,
+    })?;
+    Ok(MemShelf::new(
+        files,
+        NumList::from_vec(Vec::from_slice(alloc, fails)?),
+    ))
+}
+
+// What `run s` answers for a script, and what it writes to a sink that takes so many bytes.
+fn run(
+    rt: &impl Abort,
+    alloc: Global,
+    script: &str,
+    fails: &[u64],
+    limit: u64,
+    status: Status,
+    written: &str,
+) -> Result<(), Fail> {
+    let words = words_of(alloc, &["run", "s"])?;
+    let mut shelf = shelf_with(alloc, bytes_of(alloc, script)?, fails)?;
+    let mut sink = MemSink::new(alloc, limit, NumList::new(alloc));
+    let answer = gdi_main(alloc, &words, &mut shelf, &mut sink);
+    assert_eq!(rt; answer, status, "{script:?}");
+    assert_eq!(rt; sink.bytes(), written.as_bytes(), "{script:?}");
+    Ok(())
+}
+
+const FIRST: &str = "section\ntxn\nvertex 7\nhas 7\nend\n";
+
+#[test]
+fn scripts_run(rt: HostRuntime) -> Result<(), Fail> {
+    for (script, written) in [
+        (FIRST, "1.1 w 0\n done\n yes\nwrites 1\n"),
+        ("", "writes 0\n"),
+        (
+            "section\ntxn\nhas 7\nend\ntxn\nend\n",
+            "1.1 r 0\n no\n1.2 r 0\nwrites 0\n",
+        ),
+        (
+            "section\ntxn\nvertex 7\nvertex 7\nend",
+            "1.1 w 0\n done\n exists\nwrites 1\n",
+        ),
+    ] {
+        run(&rt, rt.alloc(), script, &[], 1000, Status::Done, written)?;
+    }
+    Ok(())
+}
+
+#[test]
+fn faults_are_answered(rt: HostRuntime) -> Result<(), Fail> {
+    let alloc = rt.alloc();
+    let read = Status::ReadFault(FileKind::Script);
+    run(&rt, alloc, FIRST, &[2], 1000, read, "")?;
+    run(&rt, alloc, FIRST, &[], 10, Status::WriteFault, "1.1 w 0\n d")?;
+    let bad = Status::BadScript { line: 0, kind: 0 };
+    run(&rt, alloc, "section\ntxn\nvertex 01\nend\n", &[], 1000, bad, "")?;
+    run(&rt, alloc, "section\ntxn\n", &[], 1000, bad, "")
+}
+
+#[test]
+fn words_are_told(rt: HostRuntime) -> Result<(), Fail> {
+    let alloc = rt.alloc();
+    let command = Status::Usage(UsageKind::Command);
+    let others = Status::Usage(UsageKind::Words);
+    for (words, status) in [
+        (["walk", "s"].as_slice(), command),
+        ([].as_slice(), command),
+        (["run"].as_slice(), others),
+        (["run", "-"].as_slice(), others),
+        (["run", ""].as_slice(), others),
+        (["run", "s", "s"].as_slice(), others),
+    ] {
+        let words = words_of(alloc, words)?;
+        let mut shelf = shelf_with(alloc, bytes_of(alloc, FIRST)?, &[])?;
+        let mut sink = MemSink::new(alloc, 1000, NumList::new(alloc));
+        let answer = gdi_main(alloc, &words, &mut shelf, &mut sink);
+        assert_eq!(rt; answer, status);
+        assert_eq!(rt; sink.bytes(), b"".as_slice());
+    }
+    Ok(())
+}
+
+// A script of so many empty lines.
+fn run_empty_lines(alloc: Global, lines: usize) -> Result<(Status, MemSink), Fail> {
+    let words = words_of(alloc, &["run", "s"])?;
+    let text = vec![in alloc; b'\n'; lines]?;
+    let mut shelf = shelf_with(alloc, Bytes::from_vec(text), &[])?;
+    let mut sink = MemSink::new(alloc, 1000, NumList::new(alloc));
+    let answer = gdi_main(alloc, &words, &mut shelf, &mut sink);
+    Ok((answer, sink))
+}
+
+#[test]
+fn the_longest_file_is_read(rt: HostRuntime) -> Result<(), Fail> {
+    let (answer, sink) = run_empty_lines(rt.alloc(), 67_108_864)?;
+    assert_eq!(rt; answer, Status::Done);
+    assert_eq!(rt; sink.bytes(), b"writes 0\n".as_slice());
+    let (answer, sink) = run_empty_lines(rt.alloc(), 67_108_865)?;
+    assert_eq!(rt; answer, Status::TooLong(FileKind::Script));
+    assert_eq!(rt; sink.bytes(), b"".as_slice());
+    Ok(())
+}

@@ -1,0 +1,4 @@
+mod Examples
+pub mod Sets
+pub mod Bare
+pub mod Room

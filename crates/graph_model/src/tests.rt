@@ -1,0 +1,48 @@
+ghost use Rattle.std.specs.Prelude.{IfOk};
+ghost use Rattle.std.specs.List.{AllByRecursion};
+ghost use Rattle.graph_model.specs.Bare.{IsBareCall};
+
+use crate::PlainGraph;
+use gdi_kinds::{Call, CallList, NoMemory, Reply, Txn};
+use rma_layout::Geometry;
+use std::alloc::Global;
+use std::test::Fail;
+
+#[test]
+fn answers_calls(rt: HostRuntime) -> Result<(), Fail> {
+    let alloc = rt.alloc();
+    let mut graph = PlainGraph::new(alloc, Geometry::standard());
+    assert!(rt; matches!(graph.apply(alloc, &Call::Has { id: 7 })?, Reply::No));
+    assert!(rt; matches!(graph.apply(alloc, &Call::Vertex { id: 7 })?, Reply::Done));
+    assert!(rt; matches!(graph.apply(alloc, &Call::Vertex { id: 7 })?, Reply::Exists));
+    assert!(rt; matches!(graph.apply(alloc, &Call::Has { id: 7 })?, Reply::Yes));
+    assert!(rt; matches!(graph.apply(alloc, &Call::Has { id: 8 })?, Reply::No));
+    Ok(())
+}
+
+#[test]
+fn an_abort_leaves_the_graph(rt: HostRuntime) -> Result<(), Fail> {
+    let alloc = rt.alloc();
+    let mut graph = PlainGraph::new(alloc, Geometry::standard());
+    let aborted = graph.run(alloc, &vertex_twice(alloc, true)?)?;
+    let kept = graph.run(alloc, &vertex_twice(alloc, false)?)?;
+    assert!(rt; matches!(aborted.as_slice(), [Reply::Done, Reply::Exists, Reply::Yes]));
+    assert!(rt; matches!(kept.as_slice(), [Reply::Done, Reply::Exists, Reply::Yes]));
+    assert!(rt; matches!(graph.apply(alloc, &Call::Has { id: 3 })?, Reply::Yes));
+    Ok(())
+}
+
+// A transaction that makes a vertex, tries it again and looks for it.
+fn vertex_twice(alloc: Global, aborts: bool) -> Result<Txn, NoMemory>
+    ensures { IfOk result (λ txn. AllByRecursion IsBareCall txn.calls) }
+{
+    let mut calls = CallList::new(alloc);
+    calls.push(Call::Vertex { id: 3 })?;
+    calls.push(Call::Vertex { id: 3 })?;
+    calls.push(Call::Has { id: 3 })?;
+    Ok(Txn {
+        whole: false,
+        calls,
+        aborts,
+    })
+}
