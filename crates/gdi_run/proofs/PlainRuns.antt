@@ -1,5 +1,5 @@
 -- Plain scripts: transactions of `vertex` and `has` that end, with few vertices, fit the standard geometry and answer words.
-use Rattle.std.proofs.Common.{◌≡◌, ℕ, suc, ◌+◌, ◌<◌, ◌≤◌, Bool, true, false, cond, List, [], ◌∷◌, ◌++◌, length, get_or, drop, None, count_by, sum_by, refl, sym, ap, subst, ◌∙◌, arith}
+use Rattle.std.proofs.Common.{◌≡◌, ℕ, suc, ◌+◌, ◌<◌, ◌≤◌, Bool, true, false, List, [], ◌∷◌, ◌++◌, length, get_or, drop, sum_by, refl, sym, ap, subst, ◌∙◌, arith}
 use Rattle.std.specs.List.{AllByRecursion, list_any}
 use Rattle.std.proofs.lemmas.List.{append-nil, drop_all, length-append}
 use Rattle.std.proofs.lemmas.List.Sums.{sum_by-cons, get_or-le-sum_by}
@@ -9,12 +9,11 @@ use Rattle.gdi_kinds.specs.declared.reply.Reply.{Reply}
 use Rattle.gdi_kinds.specs.declared.reply.Reply.TheVariants as reply
 use Rattle.gdi_kinds.specs.declared.txn.Txn.{Txn}
 use Rattle.gdi_kinds.specs.declared.outcome.Line.{Line}
-use Rattle.gdi_kinds.specs.declared.outcome.Printed.{Printed}
 use Rattle.rma_layout.specs.Shape.{Shape, default_shape}
 use Rattle.graph_model.specs.Graph.{Graph, empty_graph}
-use Rattle.graph_model.specs.Bare.{IsBareCall, IsBareReply, bare_graph, is_vertex_call}
+use Rattle.graph_model.specs.Bare.{IsBareCall, IsBareReply, bare_graph}
 use Rattle.graph_model.specs.Calls.{is_writing_call}
-use Rattle.graph_model.specs.Transactions.{is_writing, graph_after_calls, replies_to_calls, graph_after_txn, replies_to}
+use Rattle.graph_model.specs.Transactions.{is_writing, graph_after_txn, replies_to}
 use Rattle.graph_model.specs.Placed.{Placed, placed_from, sections_from, transactions_of}
 use Rattle.graph_model.specs.LegalRun.{IsLegalRun}
 use Rattle.graph_model.proofs.Bare.{ids_after_calls, graph_after_calls-bare, IsBareReply-calls, length-after_calls}
@@ -78,7 +77,7 @@ plain_run ids k (p ∷ ps) plain few =
       fits = ((full_rank-default ids p.txn bare (omega arith), stays), subst (λ g. Fits default_shape g ps) (sym after) rest.fits);
       words = (
         ends_in_words p.txn.aborts (is_writing p.txn) k p.section p.number (replies_to default_shape (bare_graph ids) p.txn) (are_words _ (IsBareReply-calls default_shape ids p.txn.calls bare)),
-        subst (λ g. AllByRecursion HasWords (serial_lines default_shape g (next_entries k p.txn) ps)) (sym after) rest.words
+        subst (λ g. AllByRecursion HasWords (serial_lines default_shape g (next_entries k p.txn) ps)) (sym after) rest.words,
       );
     }
 
@@ -149,7 +148,7 @@ pub plain_is_legal : (script : List (List Txn)) (lines : List Line) (g : Graph) 
 plain_is_legal script lines g writes i plain le same_lines same_writes =
     let none : drop i script ≡ [] = drop_all i script le in
     let lines_are : lines ≡ serial_lines default_shape empty_graph 0 (transactions_of script)
-        = sym (append-nil lines) ∙ ap (λ (rest : List (List Txn)). lines ++ serial_lines default_shape g writes (sections_from (i + 1) rest)) (sym none) ∙ same_lines in
+    = sym (append-nil lines) ∙ ap (λ (rest : List (List Txn)). lines ++ serial_lines default_shape g writes (sections_from (i + 1) rest)) (sym none) ∙ same_lines in
     let writes_are : writes ≡ serial_writes 0 (transactions_of script) = ap (λ (rest : List (List Txn)). serial_writes writes (sections_from (i + 1) rest)) (sym none) ∙ same_writes in
     let run = whole_run script plain in
     rw (lines_are, writes_are) (serial_is_legal default_shape script run.fits, run.words)

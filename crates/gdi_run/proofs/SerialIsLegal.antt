@@ -1,28 +1,24 @@
 -- Transactions that run one after the other are a legal run.
-use Rattle.std.proofs.Common.{◌≡◌, ◌≢◌, ℕ, zero, suc, ◌+◌, ◌<◌, ◌≤◌, Bool, true, false, not, cond, eqb, List, [], ◌∷◌, ◌++◌, length, map, Option, Some, None, IsTrue, refl, sym, ap, subst, ◌∙◌, append_assoc, arith, rules, inl, inr}
+use Rattle.std.proofs.Common.{◌≡◌, ◌≢◌, ℕ, suc, ◌+◌, ◌<◌, ◌≤◌, Bool, true, false, not, eqb, List, [], ◌∷◌, ◌++◌, length, Option, Some, None, IsTrue, refl, sym, ap, ◌∙◌, append_assoc, arith}
 use Rattle.std.specs.Prelude.{IfSome, find}
 use Rattle.std.specs.Option.{option_map, option_map_or}
-use Rattle.std.specs.List.{filter_map, AllByRecursion, zip}
-use Rattle.std.proofs.lemmas.Bool.{eqb-true}
+use Rattle.std.specs.List.{AllByRecursion, zip}
 use Rattle.std.proofs.lemmas.Bool.Decides.{nat_tests}
-use Rattle.std.proofs.lemmas.List.{append-nil}
 use Rattle.gdi_kinds.specs.declared.reply.Reply.{Reply}
 use Rattle.gdi_kinds.specs.declared.call.Call.{Call}
-use Rattle.gdi_kinds.specs.declared.call.Call.TheVariants.{Vertex, Has}
 use Rattle.gdi_kinds.specs.declared.txn.Txn.{Txn}
 use Rattle.gdi_kinds.specs.declared.outcome.Outcome.{Outcome}
 use Rattle.gdi_kinds.specs.declared.outcome.Outcome.TheVariants.{Wrote, Read, Aborted, Full}
 use Rattle.gdi_kinds.specs.declared.outcome.Line.{Line}
-use Rattle.gdi_kinds.specs.declared.outcome.Printed.{Printed}
 use Rattle.rma_layout.specs.Shape.{Shape}
 use Rattle.graph_model.specs.Graph.{Graph, empty_graph}
-use Rattle.graph_model.specs.Calls.{graph_after_call, reply_to, is_writing_call}
-use Rattle.graph_model.specs.Transactions.{is_writing, graph_after_calls, replies_to_calls, graph_after_txn, replies_to}
+use Rattle.graph_model.specs.Calls.{graph_after_call}
+use Rattle.graph_model.specs.Transactions.{is_writing, replies_to_calls, graph_after_txn, replies_to}
 use Rattle.graph_model.specs.Capacity.{full_rank}
 use Rattle.graph_model.specs.Placed.{Placed, transactions_of, pairs_of, entry_number, place_of}
 use Rattle.graph_model.specs.History.{entry_at, is_entry, graph_after}
 use Rattle.gdi_run.specs.Serial.{ends, entries_after, line_of, next_entries, serial_lines, serial_writes}
-use Rattle.graph_model.specs.LegalRun.{MayEnd, FitsScript, IsDistinct, numbers_of, places_of, IsNumbered, Follows, IsInOrder, HasReplies, HasRoom, graph_of_run, IsLegalRun}
+use Rattle.graph_model.specs.LegalRun.{MayEnd, FitsScript, IsDistinct, numbers_of, places_of, Follows, IsInOrder, HasReplies, HasRoom, IsLegalRun}
 
 -- what the run needs: no rank is short of blocks at any of them, and one that doesn't write leaves the graph
 abbrev pub Fits : Shape → Graph → List Placed → Type 0
@@ -47,9 +43,10 @@ may_end txn false false k rs ae we le = (not_false txn.aborts ae, not_false (is_
 
 fits_script : (shape : Shape) (g : Graph) (k : ℕ) (ps : List Placed) → FitsScript ps (serial_lines shape g k ps)
 fits_script shape g k [] = tt
-fits_script shape g k (p ∷ ps) =
-    ((refl, refl, may_end p.txn p.txn.aborts (is_writing p.txn) k (replies_to shape g p.txn) refl refl (length-replies shape g p.txn.calls)),
-    fits_script shape (graph_after_txn shape g p.txn) (next_entries k p.txn) ps)
+fits_script shape g k (p ∷ ps) = (
+  (refl, refl, may_end p.txn p.txn.aborts (is_writing p.txn) k (replies_to shape g p.txn) refl refl (length-replies shape g p.txn.calls)),
+  fits_script shape (graph_after_txn shape g p.txn) (next_entries k p.txn) ps,
+)
 
 -- ---- numbers and places
 
@@ -79,9 +76,10 @@ ends_from_on j false false k rs le = (tt, le)
 
 lines_from_on : (shape : Shape) (g : Graph) (j k : ℕ) (ps : List Placed) → j ≤ k → AllByRecursion (λ line. FromOn j line.outcome) (serial_lines shape g k ps)
 lines_from_on shape g j k [] le = tt
-lines_from_on shape g j k (p ∷ ps) le =
-    (ends_from_on j p.txn.aborts (is_writing p.txn) k (replies_to shape g p.txn) le,
-    lines_from_on shape (graph_after_txn shape g p.txn) j (next_entries k p.txn) ps (omega (arith, le, entries_rise p.txn.aborts (is_writing p.txn) k)))
+lines_from_on shape g j k (p ∷ ps) le = (
+  ends_from_on j p.txn.aborts (is_writing p.txn) k (replies_to shape g p.txn) le,
+  lines_from_on shape (graph_after_txn shape g p.txn) j (next_entries k p.txn) ps (omega (arith, le, entries_rise p.txn.aborts (is_writing p.txn) k)),
+)
 
 follows : (a w : Bool) (k : ℕ) (rs : List Reply) (later : Outcome) → FromOn (entries_after a w k) later → Follows (ends a w k rs) later
 follows true w k rs later h = tt
@@ -99,9 +97,10 @@ all_follow a w k rs section (line ∷ lines) h = (λ _. follows a w k rs line.ou
 in_order : (shape : Shape) (g : Graph) (k : ℕ) (ps : List Placed) → IsInOrder (serial_lines shape g k ps)
 in_order shape g k [] = tt
 in_order shape g k (p ∷ ps) =
-    let next = next_entries k p.txn in
-    (all_follow p.txn.aborts (is_writing p.txn) k (replies_to shape g p.txn) p.section _ (lines_from_on shape (graph_after_txn shape g p.txn) next next ps (omega arith)),
-    in_order shape (graph_after_txn shape g p.txn) next ps)
+    let next = next_entries k p.txn in (
+      all_follow p.txn.aborts (is_writing p.txn) k (replies_to shape g p.txn) p.section _ (lines_from_on shape (graph_after_txn shape g p.txn) next next ps (omega arith)),
+      in_order shape (graph_after_txn shape g p.txn) next ps,
+    )
 
 -- the numbers of these lines are those from k to the last, each once
 record Numbers (k last : ℕ) (lines : List Line) : Type 0 where
@@ -218,7 +217,7 @@ module _ (shape : Shape) (pairs : List (Placed × Line)) where
       let rest = zip ps (serial_lines shape after next ps) in
       let line = line_of shape g k p in
       let is_next : p.txn.aborts ≡ false → is_writing p.txn ≡ true → entry_at [] pairs k ≡ Some p.txn
-          = λ ae we. ap (λ (l : List (Placed × Line)). entry_at [] l k) split ∙ entry_is p.txn.aborts (is_writing p.txn) k (replies_to shape g p.txn) p before rest ae we below in
+      = λ ae we. ap (λ (l : List (Placed × Line)). entry_at [] l k) split ∙ entry_is p.txn.aborts (is_writing p.txn) k (replies_to shape g p.txn) p before rest ae we below in
       let here_next : after ≡ graph_at next = next_graph shape (entry_at [] pairs) g k p.txn p.txn.aborts (is_writing p.txn) refl refl here is_next fits.0.1 in
       let split_next : pairs ≡ (before ++ (p, line) ∷ []) ++ rest = split ∙ sym (append_assoc before ((p, line) ∷ []) rest) in
       let below_next = below_push next before (p, line) (below_more k next before (entries_rise p.txn.aborts (is_writing p.txn) k) below) (ends_below p.txn.aborts (is_writing p.txn) k (replies_to shape g p.txn)) in

@@ -1,5 +1,5 @@
 -- What the top call answers, and why.
-use Rattle.std.specs.Prelude.{◌≡◌, ◌⊎◌, ℕ, ◌<◌, ◌≤◌, false, Some, List, length, take, IfSome, Result, Ok, Err}
+use Rattle.std.specs.Prelude.{◌≡◌, ◌⊎◌, ℕ, ◌<◌, ◌≤◌, false, Some, List, length, take, IfSome, Ok, Err}
 use Rattle.gdi_kinds.specs.declared.named_bytes.NamedBytes.{NamedBytes}
 use Rattle.gdi_kinds.specs.declared.txn.Txn.{Txn}
 use Rattle.gdi_io.specs.Faults.{Rose}

@@ -24,10 +24,7 @@ fn shelf_with(alloc: Global, bytes: Bytes, fails: &[u64]) -> Result<MemShelf, Fa
         name: bytes_of(alloc, "s")?,
         bytes,
     })?;
-    Ok(MemShelf::new(
-        files,
-        NumList::from_vec(Vec::from_slice(alloc, fails)?),
-    ))
+    Ok(MemShelf::new(files, NumList::from_vec(Vec::from_slice(alloc, fails)?)))
 }
 
 // What `run s` answers for a script, and what it writes to a sink that takes so many bytes.
@@ -75,9 +72,25 @@ fn faults_are_answered(rt: HostRuntime) -> Result<(), Fail> {
     let alloc = rt.alloc();
     let read = Status::ReadFault(FileKind::Script);
     run(&rt, alloc, FIRST, &[2], 1000, read, "")?;
-    run(&rt, alloc, FIRST, &[], 10, Status::WriteFault, "1.1 w 0\n d")?;
+    run(
+        &rt,
+        alloc,
+        FIRST,
+        &[],
+        10,
+        Status::WriteFault,
+        "1.1 w 0\n d",
+    )?;
     let bad = Status::BadScript { line: 0, kind: 0 };
-    run(&rt, alloc, "section\ntxn\nvertex 01\nend\n", &[], 1000, bad, "")?;
+    run(
+        &rt,
+        alloc,
+        "section\ntxn\nvertex 01\nend\n",
+        &[],
+        1000,
+        bad,
+        "",
+    )?;
     run(&rt, alloc, "section\ntxn\n", &[], 1000, bad, "")
 }
 

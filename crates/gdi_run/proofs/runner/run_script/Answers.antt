@@ -20,12 +20,12 @@ pub returns-clause-legal : goal.returns-clause-legal
 returns-clause-legal c =
     let plain = subst IsPlainScript (sym c.as_slice-section-items.ensures) c.requires in
     let legal = plain_is_legal c.as_slice-section-items.result.now c.loop-index.run.lines c.loop-index.run.graph.graph c.loop-index.run.writes c.loop-index.index plain c.loop-index-test.false
-      c.loop-index.invariant.lines c.loop-index.invariant.writes in
+    c.loop-index.invariant.lines c.loop-index.invariant.writes in
     subst (λ script. IsLegalRun default_shape [] script (record { lines = c.loop-index.run.lines; writes = c.loop-index.run.writes })) c.as_slice-section-items.ensures legal.0
 
 pub returns-clause-words : goal.returns-clause-words
 returns-clause-words c =
     let plain = subst IsPlainScript (sym c.as_slice-section-items.ensures) c.requires in
     let legal = plain_is_legal c.as_slice-section-items.result.now c.loop-index.run.lines c.loop-index.run.graph.graph c.loop-index.run.writes c.loop-index.index plain c.loop-index-test.false
-      c.loop-index.invariant.lines c.loop-index.invariant.writes in
+    c.loop-index.invariant.lines c.loop-index.invariant.writes in
     legal.1

@@ -1,5 +1,5 @@
-use Rattle.std.proofs.Common.{◌≡◌, ◌+◌, ◌≤◌, ◌++◌, drop, length}
-use Rattle.std.specs.List.{AllByRecursion, sum_by}
+use Rattle.std.proofs.Common.{◌≡◌, ◌+◌, ◌++◌, drop}
+use Rattle.std.specs.List.{AllByRecursion}
 use Rattle.rma_layout.specs.Shape.{default_shape}
 use Rattle.graph_model.specs.Graph.{empty_graph}
 use Rattle.graph_model.specs.Placed.{sections_from, transactions_of}
