@@ -1,4 +1,6 @@
-ghost use Rattle.std.specs.Prelude.{◌≡◌, ◌≤◌, length, MatchOption};
+ghost use Rattle.std.specs.Prelude.{◌≡◌, ◌≤◌, length, nat_eq, MatchOption};
+ghost use Rattle.std.specs.Cmp.Lexicographic.{pointwise, nat_list_eq_equiv};
+ghost use Rattle.std.specs.Cmp.{partial_equiv_from_equiv};
 ghost use Rattle.std.specs.List.{list_all};
 ghost use Rattle.gdi_kinds.specs.Names.{IsName, begins_name, continues_name, is_name, padded};
 
@@ -32,7 +34,8 @@ impl Model for Name {
 impl Name {
     /// The name with these bytes. There is none exactly where they are no name.
     pub fn of(bytes: &[u8]) -> Option<Name>
-        ensures { MatchOption result (¬ IsName bytes.now) (λ name. (name ≡ bytes.now) × IsName bytes.now) }
+        ensures { MatchOption result (¬ IsName bytes.now)
+            (λ name. (name ≡ bytes.now) × IsName bytes.now) }
     {
         if !is_name(bytes) {
             return None;
@@ -50,6 +53,20 @@ impl Name {
     {
         &self.bytes[..usize::from(self.len)]
     }
+}
+
+impl PartialEq for Name {
+    ghost eq = { pointwise nat_eq };
+
+    ghost laws = { partial_equiv_from_equiv nat_list_eq_equiv };
+
+    fn eq(&self, other: &Name) -> bool {
+        self.bytes() == other.bytes()
+    }
+}
+
+impl Eq for Name {
+    ghost laws = { nat_list_eq_equiv };
 }
 
 impl Duplicate for Name {

@@ -24,7 +24,6 @@ pub enum Unfit {
 impl Model for Text {
     ghost use Rattle.std.specs.Prelude.{List, ℕ};
     ghost use Rattle.std.specs.String.{string_bytes};
-    ghost use Rattle.std.specs.List.{list_all};
     ghost use Rattle.gdi_kinds.specs.Texts.{IsText};
 
     ghost Value = { List ℕ };

@@ -1,5 +1,5 @@
-ghost use Rattle.std.specs.Prelude.{◌≡◌, Some, None, MatchResult};
-ghost use Rattle.rma_layout.specs.Shape.{Shape, default_shape};
+ghost use Rattle.std.specs.Prelude.{◌≡◌, ◌≤◌, Some, None, MatchResult};
+ghost use Rattle.rma_layout.specs.Shape.{Shape, default_shape, reserved_blocks};
 ghost use Rattle.rma_layout.specs.Ranges.{is_between, refusal_of, IsInRange};
 
 mod numbers;
@@ -104,7 +104,7 @@ impl Geometry {
         }
     }
 
-    /// Every geometry keeps the ranges.
+    /// Every geometry is in all ranges at once.
     pub fn keeps_ranges(&self)
         ensures { IsInRange self.now }
     {
@@ -113,35 +113,40 @@ impl Geometry {
 
     /// The ranks, 1 to 64.
     pub fn ranks(&self) -> u64
-        ensures { result ≡ self.now.ranks }
+        ensures value { result ≡ self.now.ranks }
+        ensures within { (1 ≤ result) × (result ≤ 64) }
     {
         self.ranks
     }
 
-    /// The blocks of each rank.
+    /// The blocks of each rank: the reserved ones at least, and at most 1,048,575.
     pub fn blocks(&self) -> u64
-        ensures { result ≡ self.now.blocks }
+        ensures value { result ≡ self.now.blocks }
+        ensures within { (reserved_blocks self.now ≤ result) × (result ≤ 1048575) }
     {
         self.blocks
     }
 
     /// The words of each block, 8 to 64.
     pub fn words(&self) -> u64
-        ensures { result ≡ self.now.words }
+        ensures value { result ≡ self.now.words }
+        ensures within { (8 ≤ result) × (result ≤ 64) }
     {
         self.words
     }
 
     /// The buckets of each rank, 1 to 4,096.
     pub fn buckets(&self) -> u64
-        ensures { result ≡ self.now.buckets }
+        ensures value { result ≡ self.now.buckets }
+        ensures within { (1 ≤ result) × (result ≤ 4096) }
     {
         self.buckets
     }
 
     /// The slots of each rank, 1 to 64.
     pub fn slots(&self) -> u64
-        ensures { result ≡ self.now.slots }
+        ensures value { result ≡ self.now.slots }
+        ensures within { (1 ≤ result) × (result ≤ 64) }
     {
         self.slots
     }
