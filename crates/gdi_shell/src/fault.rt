@@ -1,3 +1,6 @@
+ghost use Rattle.std.specs.Prelude.{◌≡◌};
+ghost use Rattle.gdi_shell.specs.Faults.{fault_of, exit_number};
+
 use gdi_run::{FileKind, Status};
 use thiserror::Error;
 
@@ -28,7 +31,9 @@ pub enum Fault {
 
 impl Fault {
     /// The fault that a status is; `Done` is none.
-    pub fn of(status: Status) -> Option<Fault> {
+    pub fn of(status: Status) -> Option<Fault>
+        ensures { result ≡ fault_of status }
+    {
         match status {
             Status::Done => None,
             Status::Usage(_) => Some(Fault::Usage),
@@ -53,7 +58,9 @@ impl Fault {
     }
 
     /// The number that the program ends with.
-    pub fn exit_number(&self) -> u8 {
+    pub fn exit_number(&self) -> u8
+        ensures { result ≡ exit_number self.now }
+    {
         match self {
             Fault::Usage => 2,
             Fault::Read(_) => 3,
