@@ -3,6 +3,8 @@
 #![tactic(auto)]
 
 mod fault;
+#[cfg(test)]
+mod tests;
 
 use fault::Fault;
 use gdi_io::{FolderShelf, OutSink};
