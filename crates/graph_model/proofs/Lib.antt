@@ -1,4 +1,14 @@
-mod Examples
 pub mod Sets
 pub mod Bare
 pub mod Room
+pub mod Steps
+pub mod Leaving
+pub mod Transactions
+pub mod Short
+pub mod Entries
+pub mod KeepsWellFormed
+pub mod CallsKeepWellFormed
+pub mod MovedPlaces
+pub mod Shortest
+pub mod Levels
+pub mod Components

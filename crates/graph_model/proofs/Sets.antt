@@ -30,7 +30,7 @@ AllByRecursion-at P [] i all within = absurd (omega arith)
 AllByRecursion-at P (n ∷ ns) zero all within = all.0
 AllByRecursion-at P (n ∷ ns) (suc i) all within = AllByRecursion-at P ns i all.1 (omega arith)
 
-AllByRecursion-add : (P : ℕ → Type 0) (n : ℕ) (ns : List ℕ) → P n → AllByRecursion P ns → AllByRecursion P (add n ns)
+pub AllByRecursion-add : (P : ℕ → Type 0) (n : ℕ) (ns : List ℕ) → P n → AllByRecursion P ns → AllByRecursion P (add n ns)
 AllByRecursion-add P n [] here all = (here, tt)
 AllByRecursion-add P n (m ∷ ms) here all =
     elim (nat_cmp n m) as (λ order. AllByRecursion P (by_order order (n ∷ m ∷ ms) (m ∷ ms) (m ∷ add n ms))) [

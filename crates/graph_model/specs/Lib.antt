@@ -16,5 +16,9 @@ pub mod Capacity
 pub mod Placed
 pub mod History
 pub mod LegalRun
+pub mod MovedPlaces
 pub mod Bare
 pub mod Plain
+pub mod Examples
+pub mod LegalExamples
+pub mod Laws

@@ -1,0 +1,165 @@
+-- Scripts with the replies that the definitions give them, and the sizes of small objects.
+use Rattle.std.specs.Prelude.{◌≡◌, ◌+◌, ◌*◌, ◌-◌, ◌^◌, List, [], ◌∷◌, Some, None, true, false, pos, codes, replicate}
+use Rattle.gdi_kinds.specs.declared.call.Call.{Call}
+use Rattle.gdi_kinds.specs.declared.call.Call.TheVariants.{Arcs, Cut, Degree, DropVertex, EGet, ESet, ETags, EUnset, Edge, Edges, Find, Get, Has, Hood, Levels, Near, NewLabel, NewType, Parts, Props, Scan, Set, Tag, Tags, Unset, Untag, Vertex, Vertices}
+use Rattle.gdi_kinds.specs.declared.call.Dir.TheVariants.{Inward, Either}
+use Rattle.gdi_kinds.specs.declared.constraint.Atom.TheVariants as atom
+use Rattle.gdi_kinds.specs.declared.constraint.Op.TheVariants.{Ge}
+use Rattle.gdi_kinds.specs.declared.reply.Reply.{Reply}
+use Rattle.gdi_kinds.specs.declared.reply.Reply.TheVariants as reply
+use Rattle.gdi_kinds.specs.declared.value.Kind.TheVariants as kind
+use Rattle.gdi_kinds.specs.declared.value.Value.TheVariants as value
+use Rattle.gdi_kinds.specs.declared.txn.Txn.{Txn}
+use Rattle.rma_layout.specs.Shape.{Shape, default_shape}
+use Rattle.rma_layout.specs.Placement.{bucket_of}
+use Rattle.graph_model.specs.Graph.{Graph, empty_graph, new_vertex}
+use Rattle.graph_model.specs.Sizes.{words_of_vertex, words_of_bucket, words_of_names, most_words, is_too_large, words_of_bytes}
+use Rattle.graph_model.specs.Transactions.{replies_to_calls, graph_after_calls, graph_after_txn}
+use Rattle.graph_model.specs.Capacity.{makes, full_rank}
+
+-- the graph after these calls alone
+abbrev pub made_by : List Call → Graph
+made_by calls = graph_after_calls default_shape empty_graph calls
+
+-- what these calls are answered on a graph, and on the empty one
+abbrev pub IsAnswered : Graph → List Call → List Reply → Type 0
+IsAnswered g calls replies = replies_to_calls default_shape g calls ≡ replies
+
+abbrev pub GivesReplies : List Call → List Reply → Type 0
+GivesReplies calls replies = IsAnswered empty_graph calls replies
+
+abbrev pub committed : List Call → Txn
+committed calls = record { whole = false; calls = calls; aborts = false }
+
+abbrev pub aborted : List Call → Txn
+aborted calls = record { whole = false; calls = calls; aborts = true }
+
+-- a rank of eight blocks, of which five are reserved
+abbrev pub small_shape : Shape
+small_shape = record { ranks = 1; blocks = 8; words = 8; buckets = 2; slots = 2 }
+
+abbrev pub small_graph : List Call → Graph
+small_graph calls = graph_after_calls small_shape empty_graph calls
+
+abbrev pub AbsentVertexIsAnsweredNo : Type 0
+AbsentVertexIsAnsweredNo = GivesReplies (Has 7 ∷ []) (reply.No ∷ [])
+
+abbrev pub MadeVertexIsThere : Type 0
+MadeVertexIsThere = GivesReplies (Vertex 7 ∷ Has 7 ∷ []) (reply.Done ∷ reply.Yes ∷ [])
+
+abbrev pub SecondVertexExists : Type 0
+SecondVertexExists = GivesReplies (Vertex 7 ∷ Vertex 7 ∷ []) (reply.Done ∷ reply.Exists ∷ [])
+
+abbrev pub AbortLeavesNothing : Type 0
+AbortLeavesNothing = graph_after_txn default_shape empty_graph (aborted (Vertex 7 ∷ [])) ≡ empty_graph
+
+-- a vertex that is made again is a second object, on the same rank
+abbrev pub VertexMadeAgain : Type 0
+VertexMadeAgain = GivesReplies (Vertex 7 ∷ DropVertex 7 ∷ Vertex 7 ∷ []) (reply.Done ∷ reply.Done ∷ reply.Done ∷ [])
+    × (makes default_shape empty_graph (Vertex 7 ∷ DropVertex 7 ∷ Vertex 7 ∷ []) ≡ 3 ∷ 3 ∷ [])
+
+-- three vertices take the three blocks that aren't reserved; one that goes gives its block back
+abbrev pub FourthVertexIsFull : Type 0
+FourthVertexIsFull = (full_rank small_shape (small_graph (Vertex 1 ∷ Vertex 2 ∷ [])) (committed (Vertex 3 ∷ [])) ≡ None)
+    × (full_rank small_shape (small_graph (Vertex 1 ∷ Vertex 2 ∷ Vertex 3 ∷ [])) (committed (Vertex 4 ∷ [])) ≡ Some 0)
+    × (full_rank small_shape empty_graph (committed (Vertex 1 ∷ Vertex 2 ∷ Vertex 3 ∷ Vertex 4 ∷ [])) ≡ Some 0)
+
+abbrev pub DroppedVertexGivesRoom : Type 0
+DroppedVertexGivesRoom = (full_rank small_shape (small_graph (Vertex 1 ∷ Vertex 2 ∷ Vertex 3 ∷ [])) (committed (DropVertex 2 ∷ [])) ≡ None)
+    × (full_rank small_shape (small_graph (Vertex 1 ∷ Vertex 2 ∷ Vertex 3 ∷ DropVertex 2 ∷ [])) (committed (Vertex 4 ∷ [])) ≡ None)
+
+-- one that is removed and made again is a new object, so it takes a free block though the old one has one
+abbrev pub VertexMadeAgainIsFull : Type 0
+VertexMadeAgainIsFull = full_rank small_shape (small_graph (Vertex 1 ∷ Vertex 2 ∷ Vertex 7 ∷ [])) (committed (DropVertex 7 ∷ Vertex 7 ∷ [])) ≡ Some 0
+
+-- and the edge goes with its vertex
+abbrev pub SelfLoopIsListedTwice : Type 0
+SelfLoopIsListedTwice = GivesReplies (Vertex 5 ∷ Edge 5 5 None ∷ Edges 5 Either None ∷ DropVertex 5 ∷ Vertex 5 ∷ Edges 5 Either None ∷ [])
+    (reply.Done ∷ reply.EdgeIs 5 0
+    ∷ reply.Edges ((record { inward = false; source = 5; ordinal = 0; target = 5 }) ∷ (record { inward = true; source = 5; ordinal = 0; target = 5 }) ∷ [])
+    ∷ reply.Done ∷ reply.Done ∷ reply.Edges [] ∷ [])
+
+-- an ordinal isn't given out again after a cut, nor do edges to a vertex outlive it
+abbrev pub OrdinalsAreNotUsedAgain : Type 0
+OrdinalsAreNotUsedAgain = GivesReplies (Vertex 1 ∷ Vertex 2 ∷ Edge 1 2 None ∷ Cut 1 0 ∷ Edge 1 2 None ∷ DropVertex 2 ∷ Degree 1 Either ∷ [])
+    (reply.Done ∷ reply.Done ∷ reply.EdgeIs 1 0 ∷ reply.Done ∷ reply.EdgeIs 1 1 ∷ reply.Done ∷ reply.Count 0 ∷ [])
+
+abbrev pub EdgeTurnsHeavy : Type 0
+EdgeTurnsHeavy = GivesReplies
+    (NewLabel (codes "KNOWS") ∷ NewType (codes "since") kind.Int ∷ Vertex 1 ∷ Vertex 2 ∷ Edge 1 2 (Some (codes "KNOWS")) ∷ ETags 1 0
+    ∷ ESet 1 0 (codes "since") (value.Int (pos 2019)) ∷ EGet 1 0 (codes "since") ∷ ETags 1 0 ∷ Edges 2 Inward None ∷ EUnset 1 0 (codes "since") ∷ EGet 1 0 (codes "since") ∷ [])
+    (reply.Done ∷ reply.Done ∷ reply.Done ∷ reply.Done ∷ reply.EdgeIs 1 0 ∷ reply.Labels (codes "KNOWS" ∷ []) ∷ reply.Done ∷ reply.Value (value.Int (pos 2019)) ∷ reply.Labels (codes "KNOWS" ∷ [])
+    ∷ reply.Edges ((record { inward = true; source = 1; ordinal = 0; target = 2 }) ∷ []) ∷ reply.Done ∷ reply.NoProp ∷ [])
+
+abbrev pub NameIsLookedUpFirst : Type 0
+NameIsLookedUpFirst = GivesReplies (Tag 9 (codes "Absent") ∷ []) (reply.NoLabel ∷ [])
+
+-- the greatest identifier, and the longest text
+abbrev pub LongestTextIsKept : Type 0
+LongestTextIsKept = GivesReplies
+    (NewType (codes "t") kind.Text ∷ Vertex (2 ^ 64 - 1) ∷ Set (2 ^ 64 - 1) (codes "t") (value.Text (replicate 255 97)) ∷ Get (2 ^ 64 - 1) (codes "t") ∷ [])
+    (reply.Done ∷ reply.Done ∷ reply.Done ∷ reply.Value (value.Text (replicate 255 97)) ∷ [])
+
+abbrev pub LabelsAndPropertiesComeAndGo : Type 0
+LabelsAndPropertiesComeAndGo = GivesReplies
+    (NewLabel (codes "A") ∷ NewType (codes "n") kind.Int ∷ Vertex 1 ∷ Tag 1 (codes "A") ∷ Set 1 (codes "n") (value.Int (pos 5)) ∷ Props 1 ∷ Untag 1 (codes "A") ∷ Tags 1
+    ∷ Unset 1 (codes "n") ∷ Get 1 (codes "n") ∷ Edge 1 1 None ∷ Cut 1 0 ∷ Degree 1 Either ∷ Find (codes "A") None ∷ [])
+    (reply.Done ∷ reply.Done ∷ reply.Done ∷ reply.Done ∷ reply.Done ∷ reply.Props ((record { name = codes "n"; value = value.Int (pos 5) }) ∷ []) ∷ reply.Done ∷ reply.Labels []
+    ∷ reply.Done ∷ reply.NoProp ∷ reply.EdgeIs 1 0 ∷ reply.Done ∷ reply.Count 0 ∷ reply.Ids [] ∷ [])
+
+-- directions count for levels, and not for components
+abbrev pub ComponentsIgnoreDirections : Type 0
+ComponentsIgnoreDirections = IsAnswered (made_by (Vertex 9 ∷ Vertex 4 ∷ Vertex 7 ∷ Edge 9 4 None ∷ Edge 7 4 None ∷ [])) (Parts ∷ Levels 4 ∷ Vertices ∷ Arcs ∷ [])
+    (reply.Parts ((record { id = 4; number = 3 }) ∷ []) ∷ reply.Levels ((record { id = 4; number = 0 }) ∷ []) ∷ reply.Count 3 ∷ reply.Count 2 ∷ [])
+    × GivesReplies (Parts ∷ []) (reply.Parts [] ∷ [])
+
+abbrev pub LevelsInACircle : Type 0
+LevelsInACircle = IsAnswered (made_by (Vertex 1 ∷ Vertex 2 ∷ Vertex 3 ∷ Edge 1 2 None ∷ Edge 2 3 None ∷ Edge 3 1 None ∷ [])) (Hood 1 1 ∷ Hood 1 0 ∷ Levels 3 ∷ Levels 8 ∷ Parts ∷ [])
+    (reply.Ids (1 ∷ 2 ∷ []) ∷ reply.Ids (1 ∷ []) ∷ reply.Levels ((record { id = 1; number = 1 }) ∷ (record { id = 2; number = 2 }) ∷ (record { id = 3; number = 0 }) ∷ []) ∷ reply.NoVertex 8
+    ∷ reply.Parts ((record { id = 1; number = 3 }) ∷ []) ∷ [])
+
+-- with the two records of a self loop
+abbrev pub SizesOfASelfLoop : Type 0
+SizesOfASelfLoop =
+    let looped = made_by (Vertex 5 ∷ Edge 5 5 None ∷ []) in
+    (words_of_vertex looped 5 (record new_vertex { next = 1 }) ≡ 15) × (words_of_bucket default_shape looped (bucket_of default_shape 5) ≡ 2)
+
+abbrev pub SizeOfOneName : Type 0
+SizeOfOneName = (words_of_names (made_by (NewLabel (codes "Person") ∷ [])) ≡ 4) × (words_of_names empty_graph ≡ 0) × (words_of_bytes 9 ≡ 2)
+
+-- a vertex of 209,714 edges may have one label, and neither a second one nor a further edge
+abbrev pub LargestVertex : Type 0
+LargestVertex = (5 + 5 * 209714 + 1 ≡ most_words) × (is_too_large (5 + 5 * 209714 + 2) ≡ true) × (is_too_large (5 + 5 * 209715) ≡ true)
+
+-- people, where they live and whom they know
+abbrev pub people : Graph
+people = made_by
+    (NewType (codes "name") kind.Text ∷ NewType (codes "age") kind.Int ∷ NewType (codes "since") kind.Int
+    ∷ NewLabel (codes "Person") ∷ NewLabel (codes "Author") ∷ NewLabel (codes "Town") ∷ NewLabel (codes "LIVES_IN") ∷ NewLabel (codes "KNOWS")
+    ∷ Vertex 1 ∷ Tag 1 (codes "Person") ∷ Set 1 (codes "name") (value.Text (codes "Ada")) ∷ Set 1 (codes "age") (value.Int (pos 36))
+    ∷ Vertex 2 ∷ Tag 2 (codes "Person") ∷ Tag 2 (codes "Author") ∷ Set 2 (codes "name") (value.Text (codes "Byron, George"))
+    ∷ Vertex 3 ∷ Tag 3 (codes "Person") ∷ Set 3 (codes "name") (value.Text (codes "Mary")) ∷ Set 3 (codes "age") (value.Int (pos 19))
+    ∷ Vertex 10 ∷ Tag 10 (codes "Town") ∷ Set 10 (codes "name") (value.Text (codes "London"))
+    ∷ Vertex 11 ∷ Tag 11 (codes "Town") ∷ Set 11 (codes "name") (value.Text (codes "Geneva"))
+    ∷ Edge 1 10 (Some (codes "LIVES_IN")) ∷ ESet 1 0 (codes "since") (value.Int (pos 1830))
+    ∷ Edge 2 11 (Some (codes "LIVES_IN")) ∷ ESet 2 0 (codes "since") (value.Int (pos 1816))
+    ∷ Edge 3 11 (Some (codes "LIVES_IN")) ∷ Edge 2 1 (Some (codes "KNOWS")) ∷ Edge 3 2 (Some (codes "KNOWS")) ∷ ESet 3 1 (codes "since") (value.Int (pos 1814)) ∷ [])
+
+abbrev pub PeopleAreListed : Type 0
+PeopleAreListed = IsAnswered people (Props 2 ∷ Edges 2 Either None ∷ Find (codes "Town") None ∷ Near 2 Either ∷ [])
+    (reply.Props ((record { name = codes "name"; value = value.Text (codes "Byron, George") }) ∷ [])
+    ∷ reply.Edges ((record { inward = false; source = 2; ordinal = 0; target = 11 }) ∷ (record { inward = false; source = 2; ordinal = 1; target = 1 }) ∷ (record { inward = true; source = 3; ordinal = 1; target = 2 }) ∷ [])
+    ∷ reply.Ids (10 ∷ 11 ∷ []) ∷ reply.Ids (1 ∷ 3 ∷ 11 ∷ []) ∷ [])
+
+abbrev pub PeopleAreSearched : Type 0
+PeopleAreSearched = IsAnswered people
+    (Hood 3 1 ∷ Levels 3 ∷ Parts ∷ Scan (Some (codes "Person")) (Some ((atom.Prop (codes "age") Ge (value.Int (pos 20)) ∷ []) ∷ [])) ∷ Scan None (Some ((atom.Lacks (codes "Person") ∷ []) ∷ (atom.Has (codes "Author") ∷ []) ∷ [])) ∷ [])
+    (reply.Ids (2 ∷ 3 ∷ 11 ∷ [])
+    ∷ reply.Levels ((record { id = 1; number = 2 }) ∷ (record { id = 2; number = 1 }) ∷ (record { id = 3; number = 0 }) ∷ (record { id = 10; number = 3 }) ∷ (record { id = 11; number = 1 }) ∷ [])
+    ∷ reply.Parts ((record { id = 1; number = 5 }) ∷ []) ∷ reply.Ids (1 ∷ []) ∷ reply.Ids (2 ∷ 10 ∷ 11 ∷ []) ∷ [])
+
+-- an unknown name comes before a vertex that isn't there, and that before a constant of another kind
+abbrev pub ConstraintsAreRefused : Type 0
+ConstraintsAreRefused = IsAnswered people
+    (Edges 9 Either (Some ((atom.Has (codes "Absent") ∷ []) ∷ [])) ∷ Edges 9 Either (Some ((atom.Prop (codes "age") Ge (value.Bool true) ∷ []) ∷ [])) ∷ Edges 2 Either (Some ((atom.Prop (codes "age") Ge (value.Bool true) ∷ []) ∷ [])) ∷ [])
+    (reply.NoLabel ∷ reply.NoVertex 9 ∷ reply.WrongKind ∷ [])

@@ -1,0 +1,9 @@
+pub mod Committing
+pub mod Counting
+pub mod Holding
+pub mod Making
+pub mod Maps
+pub mod Placing
+pub mod PlainFacts
+pub mod Opening
+pub mod Whole

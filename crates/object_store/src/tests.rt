@@ -1,0 +1,151 @@
+ghost use Rattle.std.specs.Prelude.{◌≡◌, ◌+◌, ◌<◌, ◌≤◌, ◌^◌, length};
+ghost use Rattle.object_store.specs.declared.phase.Phase.TheVariants.{Idle};
+ghost use Rattle.rma_layout.specs.Placement.{IsBlock, IsReserved};
+
+use crate::{PlainRefused, PlainStore, Store};
+use object_words::{Carries, Law, Words};
+use rma_layout::{DPtr, Geometry};
+use std::alloc::Global;
+use std::test::Fail;
+
+/// A law with an empty note, which every entry fits.
+struct Anything;
+
+impl Law for Anything {
+    type Note = ();
+
+    ghost fits = { λ _ _. Unit {0} };
+}
+
+/// A value that carries the empty note.
+struct Blank;
+
+impl Carries<Anything> for Blank {
+    ghost note = { λ _. tt };
+}
+
+/// Writes to a reserved object in a transaction of its own, and answers the transaction's number.
+fn put<S: Store<Anything>>(store: &mut S, at: DPtr, words: Words) -> Result<u64, S::Refused>
+    requires idle { (S.state store.old).phase ≡ Idle }
+    requires object { IsBlock (S.state store.old).shape at × IsReserved (S.state store.old).shape at.block }
+    requires few { length words ≤ 1048576 }
+    requires allowed { 0 < (S.state store.old).allowance }
+    ensures idle { (S.state store.new).phase ≡ Idle }
+    ensures shape { (S.state store.new).shape ≡ (S.state store.old).shape }
+    ensures allowance { (S.state store.old).allowance ≤ (S.state store.new).allowance + 1 }
+{
+    store.begin(true)?;
+    store.write(at, words)?;
+    store.commit(&Blank)
+}
+
+/// Makes an object with one word.
+fn make<S: Store<Anything>>(
+    store: &mut S,
+    alloc: Global,
+    home: u16,
+    word: u64,
+) -> Result<DPtr, S::Refused>
+    requires idle { (S.state store.old).phase ≡ Idle }
+    requires rank { home < (S.state store.old).shape.ranks }
+    requires allowed { 0 < (S.state store.old).allowance }
+    ensures idle { (S.state store.new).phase ≡ Idle }
+    ensures shape { (S.state store.new).shape ≡ (S.state store.old).shape }
+    ensures allowance { (S.state store.old).allowance ≤ (S.state store.new).allowance + 1 }
+{
+    let mut words = Words::new(alloc);
+    words.push(word)?;
+    store.begin(true)?;
+    let made = store.fresh(home)?;
+    store.write(made, words)?;
+    store.commit(&Blank)?;
+    Ok(made)
+}
+
+/// Empties an object that has words, if it has them.
+fn empty<S: Store<Anything>>(store: &mut S, alloc: Global, at: DPtr) -> Result<bool, S::Refused>
+    requires idle { (S.state store.old).phase ≡ Idle }
+    requires object { IsBlock (S.state store.old).shape at }
+    requires allowed { 0 < (S.state store.old).allowance }
+    ensures idle { (S.state store.new).phase ≡ Idle }
+    ensures shape { (S.state store.new).shape ≡ (S.state store.old).shape }
+    ensures allowance { (S.state store.old).allowance ≤ (S.state store.new).allowance + 1 }
+{
+    store.begin(true)?;
+    let words = store.read(at)?;
+    if words.len() == 0 {
+        store.abort();
+        return Ok(false);
+    }
+    store.write(at, Words::new(alloc))?;
+    store.commit(&Blank)?;
+    Ok(true)
+}
+
+/// How many words an object has, and the place at which it has them.
+fn look<S: Store<Anything>>(store: &mut S, at: DPtr) -> Result<(usize, u64), S::Refused>
+    requires idle { (S.state store.old).phase ≡ Idle }
+    requires object { IsBlock (S.state store.old).shape at }
+    ensures idle { (S.state store.new).phase ≡ Idle }
+    ensures shape { (S.state store.new).shape ≡ (S.state store.old).shape }
+    ensures allowance { (S.state store.new).allowance ≡ (S.state store.old).allowance }
+{
+    store.begin(false)?;
+    let words = store.read(at)?;
+    Ok((words.len(), store.finish()))
+}
+
+/// The blocks of the one rank of the tests' stores, of which 5 are reserved.
+const BLOCKS: u64 = 8;
+
+#[test]
+fn is_refused_where_none_is_left(rt: HostRuntime) -> Result<(), Fail> {
+    let alloc = rt.alloc();
+    let mut store = PlainStore::<Anything>::new(alloc, Geometry::new(1, BLOCKS, 8, 2, 2)?)?;
+    store.is_plain();
+    let first = make(&mut store, alloc, 0, 1)?;
+    assert_eq!(rt; (first.rank(), first.block()), (0, 5));
+    make(&mut store, alloc, 0, 2)?;
+    make(&mut store, alloc, 0, 3)?;
+    let refused = make(&mut store, alloc, 0, 4);
+    assert!(rt; refused == Err(PlainRefused::Empty { rank: 0 }));
+    assert!(rt; empty(&mut store, alloc, DPtr::new(0, 6))?);
+    assert!(rt; !empty(&mut store, alloc, DPtr::new(0, 6))?);
+    let again = make(&mut store, alloc, 0, 5)?;
+    assert_eq!(rt; (again.rank(), again.block()), (0, 6));
+    assert_eq!(rt; look(&mut store, DPtr::new(0, 6))?, (1, 5));
+    Ok(())
+}
+
+#[test]
+fn aborts_leave_nothing(rt: HostRuntime) -> Result<(), Fail> {
+    let alloc = rt.alloc();
+    let mut store = PlainStore::<Anything>::new(alloc, Geometry::new(1, BLOCKS, 8, 2, 2)?)?;
+    store.is_plain();
+    let metadata = DPtr::new(0, 0);
+    store.begin(true)?;
+    store.write(metadata, Words::from_vec([1, 2].to_vec(alloc)?))?;
+    assert_eq!(rt; store.read(metadata)?.as_slice(), [1, 2].as_slice());
+    store.abort();
+    assert_eq!(rt; look(&mut store, metadata)?, (0, 0));
+    let words = Words::from_vec([1, 2, 3].to_vec(alloc)?);
+    assert_eq!(rt; put(&mut store, metadata, words)?, 0);
+    assert_eq!(rt; look(&mut store, metadata)?, (3, 1));
+    Ok(())
+}
+
+#[test]
+fn gives_no_object_twice_in_one_transaction(rt: HostRuntime) -> Result<(), Fail> {
+    let alloc = rt.alloc();
+    let mut store = PlainStore::<Anything>::new(alloc, Geometry::new(1, BLOCKS, 8, 2, 2)?)?;
+    store.is_plain();
+    store.begin(true)?;
+    let first = store.fresh(0)?;
+    store.write(first, Words::new(alloc))?;
+    let second = store.fresh(0)?;
+    assert_eq!(rt; (first.block(), second.block()), (5, 6));
+    assert_eq!(rt; store.geometry().blocks(), BLOCKS);
+    store.commit(&Blank)?;
+    assert_eq!(rt; look(&mut store, DPtr::new(0, 5))?, (0, 1));
+    Ok(())
+}

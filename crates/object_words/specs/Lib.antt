@@ -1,0 +1,4 @@
+pub mod Contents
+pub mod Blocks
+pub mod Entries
+pub mod Chains
