@@ -17,7 +17,7 @@ use object_words::{Law, Words};
 use rma_layout::{DPtr, Geometry};
 use std::alloc::Global;
 
-/// A store that is an ordered map from objects to words. It has one rank's worth of users, and counts objects and not
+/// A store that is an ordered map from objects to words. It stands for all ranks, and counts objects and not
 /// blocks.
 #[derive(Drop)]
 pub struct PlainStore<L: Law> {

@@ -1,3 +1,12 @@
+ghost use Rattle.std.specs.Prelude.{◌≡◌, ◌<◌, ℕ, IfOk, IfErr};
+ghost use Rattle.object_store.specs.declared.phase.Phase.TheVariants.{Writing};
+ghost use Rattle.object_store.specs.declared.plain_refused.PlainRefused.TheVariants.{Empty};
+ghost use Rattle.object_store.specs.State.{committed};
+ghost use Rattle.object_store.specs.Sound.{Continues, StaysExplained};
+ghost use Rattle.object_store.specs.Calls.{MakesObject};
+ghost use Rattle.object_store.specs.Refusals.{RefusesFresh};
+ghost use Rattle.object_store.specs.Plain.{IsFirstVacant, IsNoneVacant};
+
 use crate::PlainRefused;
 use crate::phase::Phase;
 use crate::plain_store::PlainStore;
@@ -78,7 +87,18 @@ impl<L: Law> Store<L> for PlainStore<L> {
         }
     }
 
-    fn fresh(&mut self, home: u16) -> Result<DPtr, PlainRefused> {
+    /// The new object is the least one of the rank that isn't reserved, is empty and isn't written.
+    fn fresh(&mut self, home: u16) -> Result<DPtr, PlainRefused>
+        requires begun { (⟦<PlainStore<L> as Store<L>>⟧.state self.old).phase ≡ Writing }
+        requires rank { home < (⟦<PlainStore<L> as Store<L>>⟧.state self.old).shape.ranks }
+        ensures keeps { Continues L.fits (⟦<PlainStore<L> as Store<L>>⟧.state self.old) (⟦<PlainStore<L> as Store<L>>⟧.state self.new) }
+        ensures done { IfOk result (λ made. MakesObject home (⟦<PlainStore<L> as Store<L>>⟧.state self.old) (⟦<PlainStore<L> as Store<L>>⟧.state self.new) made) }
+        ensures refused { IfErr result (λ why. RefusesFresh home (⟦<PlainStore<L> as Store<L>>⟧.state self.old) (⟦<PlainStore<L> as Store<L>>⟧.state self.new) (⟦<PlainStore<L> as Store<L>>⟧.names why) (⟦<PlainStore<L> as Store<L>>⟧.for_memory why)) }
+        ensures explained { IfErr result (λ why. ⟦<PlainStore<L> as Store<L>>⟧.explains self.old self.new why) }
+        ensures explained_still { StaysExplained ⟦<PlainStore<L> as Store<L>>⟧.explains self.old self.new }
+        ensures least { let old = ⟦<PlainStore<L> as Store<L>>⟧.state self.old in IfOk result (λ made. IsFirstVacant old.shape (committed old) old.writes home made) }
+        ensures none_left { let old = ⟦<PlainStore<L> as Store<L>>⟧.state self.old in IfErr result (λ why. (rank : ℕ) → why ≡ Empty rank → IsNoneVacant old.shape (committed old) old.writes rank) }
+    {
         self.ledger.look();
         let Some(at) = first_vacant(&self.geometry, &self.committed, &self.txn.writes, home) else {
             self.txn.end();

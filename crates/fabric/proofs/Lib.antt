@@ -1,0 +1,9 @@
+pub mod Sums
+pub mod LockLemmas
+pub mod RightsKept
+pub mod SpentKept
+pub mod LocksKept
+pub mod LawfulKept
+pub mod LockSteps
+pub mod Calls
+pub mod Openings

@@ -1,0 +1,5 @@
+-- The step is on this object of this window.
+use Rattle.fabric.proofs.rank.Rank.share_leave.Given as goal
+
+abbrev pub ghosts-take_share : goal.ghosts-take_share
+ghosts-take_share g a = record { shape = a.window.now.shape; object = a.o }

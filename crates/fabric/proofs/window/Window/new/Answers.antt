@@ -1,0 +1,13 @@
+use Rattle.std.proofs.Common.{ap, ◌∙◌}
+use Rattle.fabric.proofs.Openings.{opening_is_lawful, first_is_live, first_is_alone}
+use Rattle.fabric.proofs.window.Window.new.Goals as goal
+
+pub of_words-requires : goal.of_words-requires
+of_words-requires g c =
+    rw c.as_slice.ensures.value (opening_is_lawful g.L.Law.fits c.args.geometry _ c.keeps_ranges.ensures c.in_ok-words.ensures)
+
+pub seated-requires-clause-live : goal.seated-requires-clause-live
+seated-requires-clause-live g c = first_is_live c.args.geometry _ c.keeps_ranges.ensures (ap (λ me. me.0) c.in_ok-table.ensures.4)
+
+pub returns-clause-alone : goal.returns-clause-alone
+returns-clause-alone g c = first_is_alone c.args.geometry _ (c.seated.ensures.view ∙ ap (λ me. me.0) c.in_ok-table.ensures.4)

@@ -1,0 +1,14 @@
+//! The window that ranks share, and their steps on its words.
+#![tactic(auto)]
+
+mod opening;
+mod plays;
+mod rank;
+mod rule;
+#[cfg(test)]
+mod tests;
+mod view;
+mod window;
+
+pub use rank::Rank;
+pub use window::Window;

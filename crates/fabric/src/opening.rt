@@ -1,0 +1,85 @@
+//! The words that a window begins with.
+ghost use Rattle.std.specs.Prelude.{◌*◌, ◌+◌, ◌<◌, ◌≡◌, IfOk};
+ghost use Rattle.rma_layout.specs.Ranges.{IsInRange};
+ghost use Rattle.fabric.specs.Opening.{AreWords, first_head_word, first_next, first_word_of, set_so_far};
+
+use gdi_kinds::NoMemory;
+use rma_layout::{DPtr, Geometry, Word};
+use std::alloc::Global;
+
+/// The words of a new window: every one is 0 but the heads and the free lists.
+pub(crate) fn first_words(alloc: Global, geometry: &Geometry) -> Result<Vec<u64>, NoMemory>
+    ensures { IfOk result (λ words. AreWords geometry.now words.items (first_word_of geometry.now)) }
+{
+    geometry.keeps_ranges();
+    let mut words = vec![in alloc; 0; geometry.window_words() as usize]?;
+    set_heads(words.as_mut_slice(), geometry);
+    set_free_lists(words.as_mut_slice(), geometry);
+    Ok(words)
+}
+
+/// Sets the head of each rank.
+fn set_heads(words: &mut [u64], geometry: &Geometry)
+    requires range { IsInRange geometry.now }
+    requires words { AreWords geometry.now words.old (set_so_far geometry.now 0 0) }
+    ensures { AreWords geometry.now words.new (set_so_far geometry.now geometry.now.ranks 0) }
+{
+    let head = first_head(geometry);
+    for rank in 0..geometry.ranks() {
+        words[geometry.number(Word::Head(rank as u16)) as usize] = head;
+    }
+}
+
+/// Sets the free-list words of all blocks.
+fn set_free_lists(words: &mut [u64], geometry: &Geometry)
+    requires range { IsInRange geometry.now }
+    requires words { AreWords geometry.now words.old (set_so_far geometry.now geometry.now.ranks 0) }
+    ensures { AreWords geometry.now words.new (first_word_of geometry.now) }
+{
+    for rank in 0..geometry.ranks() {
+        set_free_list(words, geometry, rank as u16);
+    }
+}
+
+/// Sets the free-list words of the blocks of a rank, once those of the ranks before it are set.
+fn set_free_list(words: &mut [u64], geometry: &Geometry, rank: u16)
+    requires range { IsInRange geometry.now }
+    requires rank { rank < geometry.now.ranks }
+    requires words { AreWords geometry.now words.old (set_so_far geometry.now geometry.now.ranks (rank * geometry.now.blocks)) }
+    ensures { AreWords geometry.now words.new (set_so_far geometry.now geometry.now.ranks ((rank + 1) * geometry.now.blocks)) }
+{
+    for block in 0..geometry.blocks() {
+        let next = next_free(geometry, block);
+        words[geometry.number(Word::FreeList(DPtr::new(rank, block))) as usize] = next;
+    }
+}
+
+/// How many blocks of a rank are reserved.
+fn reserved(geometry: &Geometry) -> u64
+    requires { IsInRange geometry.now }
+    ensures { result ≡ 1 + geometry.now.buckets + geometry.now.slots }
+{
+    1 + geometry.buckets() + geometry.slots()
+}
+
+/// The head of each rank: the first block that is not reserved, 0 if there is none.
+fn first_head(geometry: &Geometry) -> u64
+    requires { IsInRange geometry.now }
+    ensures { result ≡ first_head_word geometry.now }
+{
+    let first = reserved(geometry);
+    if first < geometry.blocks() { first } else { 0 }
+}
+
+/// The block behind this one in the free list of its rank, 0 if there is none.
+fn next_free(geometry: &Geometry, block: u64) -> u64
+    requires range { IsInRange geometry.now }
+    requires block { block < geometry.now.blocks }
+    ensures { result ≡ first_next geometry.now block }
+{
+    if reserved(geometry) <= block && block + 1 < geometry.blocks() {
+        block + 1
+    } else {
+        0
+    }
+}

@@ -1,0 +1,36 @@
+use crate::{Rank, Window};
+use object_words::Law;
+use rma_layout::{DPtr, Geometry, Word};
+use std::alloc::Global;
+use std::test::Fail;
+
+/// A law that every entry satisfies.
+struct Anything;
+
+impl Law for Anything {
+    type Note = ();
+
+    ghost fits = { λ _ _. Unit {0} };
+}
+
+fn is_for_threads<T: Send + Sync>(_value: &T) {}
+
+fn is_sent<T: Send>(_value: &T) {}
+
+#[test]
+fn one_rank_is_never_refused(rt: HostRuntime) -> Result<(), Fail> {
+    let (window, mut rank) = Window::<Anything>::new(rt.alloc(), Geometry::new(2, 8, 8, 2, 2)?)?;
+    is_for_threads(&window);
+    is_sent(&rank);
+    let object = DPtr::new(1, 3);
+    let other = DPtr::new(0, 3);
+    assert_eq!(rt; rank.share_try(&window, object), Ok(()));
+    assert_eq!(rt; rank.mark_try(&window, other), Ok(()));
+    assert_eq!(rt; rank.rise_try(&window, object), Ok(()));
+    rank.mark_leave(&window, object);
+    rank.mark_leave(&window, other);
+    assert_eq!(rt; rank.share_try(&window, other), Ok(()));
+    rank.share_leave(&window, other);
+    assert_eq!(rt; window.geometry().ranks(), 2);
+    Ok(())
+}

@@ -1,0 +1,70 @@
+ghost use Rattle.std.specs.Prelude.{◌≡◌, IfOk};
+ghost use Rattle.rma_layout.specs.Words.{IsWord, number_of};
+ghost use Rattle.fabric.specs.RightsHold.{IsAlone};
+ghost use Rattle.fabric.specs.View.{first_view};
+
+use crate::opening::first_words;
+use crate::rank::Rank;
+use crate::rule::Lawful;
+use crate::view::View;
+use atomic_table::Table;
+use gdi_kinds::NoMemory;
+use object_words::Law;
+use rma_layout::{Geometry, Word};
+use std::alloc::Global;
+use std::marker::Model;
+
+/// The words that ranks share: locks, lengths, links, stamps and data of all blocks, the heads of the free lists, the
+/// gate and the commit word. Ranks change it through a `&`, one word a step. Between any two steps its words and what the
+/// ranks know are lawful: the invariant is `IsLawful`.
+///
+/// A contract sees which window it is, as `id`, and its shape.
+#[derive(Drop)]
+pub struct Window<L: Law> {
+    pub(crate) table: Table<(), View<L::Note>, Geometry, Lawful<L>, Global>,
+    geometry: Geometry,
+}
+
+impl<L: Law> Model for Window<L> {
+    ghost use Rattle.fabric.specs.Window.{WindowModel, IsSized};
+
+    ghost Value = { WindowModel };
+
+    ghost view = { λ window. record { id = window.table.shared.table_id; shape = window.geometry } };
+
+    ghost invariant = { λ window. IsSized window.table.shared.table_id window.table.shared.key window.geometry };
+}
+
+impl<L: Law> Window<L> {
+    /// A window of this geometry with no rank but the one that comes with it, which stands for every rank and may commit
+    /// 2^62 times.
+    ///
+    /// Every object is empty, no object is locked, and the history is empty. The free list of each rank has the blocks
+    /// that are not reserved, in rising order.
+    pub fn new(alloc: Global, geometry: Geometry) -> Result<(Window<L>, Rank<L>), NoMemory>
+        ensures shape { IfOk result (λ made. made.0.shape ≡ geometry) }
+        ensures together { IfOk result (λ made. made.1.window ≡ made.0.id) }
+        ensures view { IfOk result (λ made. made.1.view ≡ first_view geometry) }
+        ensures alone { IfOk result (λ made. IsAlone geometry made.1.view) }
+    {
+        geometry.keeps_ranges();
+        let words = first_words(alloc, &geometry)?;
+        let (table, seat) = Table::of_words(alloc, words.as_slice(), &geometry)?;
+        Ok((Window { table, geometry }, Rank::seated(seat)))
+    }
+
+    /// The geometry that it was made with.
+    pub fn geometry(&self) -> Geometry
+        ensures { result ≡ self.now.shape }
+    {
+        self.geometry
+    }
+
+    /// The number of a word in its table.
+    pub(crate) fn number(&self, word: Word) -> usize
+        requires { IsWord self.now.shape word }
+        ensures { result ≡ number_of self.now.shape word }
+    {
+        self.geometry.number(word) as usize
+    }
+}

@@ -1,0 +1,9 @@
+pub mod Order
+pub mod Reading
+pub mod Texts
+pub mod Values
+pub mod Edges
+pub mod Bucket
+pub mod Vertex
+pub mod Holders
+pub mod Represents

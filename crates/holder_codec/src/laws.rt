@@ -1,0 +1,30 @@
+ghost use Rattle.std.specs.Prelude.{◌≡◌, ◌+◌, ◌*◌, [], length, sum_by};
+ghost use Rattle.rma_layout.specs.Shape.{Shape};
+ghost use Rattle.graph_model.specs.Graph.{empty_graph};
+ghost use Rattle.graph_model.specs.Sizes.{words_of_value};
+ghost use Rattle.holder_codec.specs.declared.bucket_holder.BucketHolder.{BucketHolder};
+ghost use Rattle.holder_codec.specs.declared.vertex_holder.VertexHolder.{VertexHolder};
+ghost use Rattle.holder_codec.specs.Bucket.{IsBucketHolder, bucket_words};
+ghost use Rattle.holder_codec.specs.Vertex.{IsVertexHolder, vertex_words};
+ghost use Rattle.holder_codec.specs.Represents.{Represents};
+
+/// No two buckets have the same words, and no two vertices.
+pub fn spellings_differ()
+    ensures buckets { (one other : BucketHolder) → IsBucketHolder one → IsBucketHolder other →
+        bucket_words one ≡ bucket_words other → one ≡ other }
+    ensures vertices { (one other : VertexHolder) → IsVertexHolder one → IsVertexHolder other →
+        vertex_words one ≡ vertex_words other → one ≡ other }
+{}
+
+/// How many words a bucket has, and a vertex: a property has 2 words before those of its value.
+pub fn words_are_counted()
+    ensures bucket { (bucket : BucketHolder) → length (bucket_words bucket) ≡ 2 * length bucket.entries }
+    ensures vertex { (vertex : VertexHolder) → length (vertex_words vertex) ≡
+        5 + length vertex.labels + sum_by (λ prop. 2 + words_of_value prop.value) vertex.props
+        + 5 * length vertex.edges }
+{}
+
+/// A store without a word represents the graph without a vertex.
+pub fn empty_store_represents_empty_graph()
+    ensures { (shape : Shape) → Represents shape [] empty_graph }
+{}

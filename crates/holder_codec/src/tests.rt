@@ -1,0 +1,108 @@
+use crate::{
+    BucketHolder, EdgeForm, EdgeRecord, VertexHolder, spellings_differ, words_are_counted,
+};
+use gdi_kinds::{NoMemory, Value};
+use object_words::Words;
+use rma_layout::DPtr;
+use std::alloc::Global;
+use std::test::Fail;
+
+/// Block 81 of rank 1.
+const AT: u64 = 281_474_976_710_737;
+
+fn words_of(alloc: Global, numbers: &[u64]) -> Result<Words, NoMemory> {
+    let mut words = Words::new(alloc);
+    for number in numbers {
+        words.push(*number)?;
+    }
+    Ok(words)
+}
+
+#[test]
+fn buckets(rt: HostRuntime) -> Result<(), Fail> {
+    let words = words_of(rt.alloc(), &[5, 9])?;
+    let bucket = BucketHolder::read(rt.alloc(), &words)?.ok_or("a bucket")?;
+    assert_eq!(rt; bucket.entries.len(), 1);
+    let again = bucket.write(rt.alloc())?;
+    assert_eq!(rt; again.as_slice(), words.as_slice());
+    for numbers in [
+        [5].as_slice(),
+        [5, 9, 4, 9].as_slice(),
+        [5, 9, 5, 9].as_slice(),
+    ] {
+        let words = words_of(rt.alloc(), numbers)?;
+        let found = BucketHolder::read(rt.alloc(), &words)?;
+        assert!(rt; found.is_none(), "{numbers:?}");
+    }
+    spellings_differ();
+    words_are_counted();
+    Ok(())
+}
+
+/// A vertex of these numbers is read, and written as the same again.
+fn is_vertex(rt: &HostRuntime, numbers: &[u64]) -> Result<bool, NoMemory> {
+    let words = words_of(rt.alloc(), numbers)?;
+    let Some(vertex) = VertexHolder::read(rt.alloc(), &words)? else {
+        return Ok(false);
+    };
+    let again = vertex.write(rt.alloc())?;
+    Ok(again.as_slice() == numbers)
+}
+
+#[test]
+fn vertices(rt: HostRuntime) -> Result<(), Fail> {
+    for (numbers, is) in [
+        ([5, 0, 0, 0, 0].as_slice(), true),
+        ([5, 0, 0, 0].as_slice(), false),
+        ([5, 0, 0, 0, 0, 0].as_slice(), false),
+        ([5, 0, 2, 0, 0, 1, 0].as_slice(), false),
+        ([5, 0, 1, 1, 0, 0, 0, 8, 36].as_slice(), true),
+        ([5, 0, 0, 1, 0, 6, 2, 24_936].as_slice(), true),
+        ([5, 0, 0, 1, 0, 6, 1, 24_936].as_slice(), false),
+        ([5, 0, 0, 1, 0, 5, 1, 2].as_slice(), false),
+        (
+            [5, 1, 0, 0, 2, 0, 0, 5, AT, 0, 1, 0, 5, AT, 0].as_slice(),
+            true,
+        ),
+        (
+            [5, 1, 0, 0, 2, 1, 0, 5, AT, 0, 0, 0, 5, AT, 0].as_slice(),
+            false,
+        ),
+    ] {
+        assert_eq!(rt; is_vertex(&rt, numbers)?, is, "{numbers:?}");
+    }
+    Ok(())
+}
+
+#[test]
+fn label_and_property(rt: HostRuntime) -> Result<(), Fail> {
+    let words = words_of(rt.alloc(), &[5, 0, 1, 1, 0, 0, 0, 8, 36])?;
+    let vertex = VertexHolder::read(rt.alloc(), &words)?.ok_or("a vertex")?;
+    assert_eq!(rt; (vertex.id, vertex.next, vertex.edges.len()), (5, 0, 0));
+    assert_eq!(rt; vertex.labels.as_slice(), [0].as_slice());
+    assert_eq!(rt; vertex.props.len(), 1);
+    let prop = vertex.props.at(0);
+    assert_eq!(rt; prop.number, 0);
+    assert!(rt; matches!(prop.value, Value::Int(36)));
+    Ok(())
+}
+
+#[test]
+fn self_loop(rt: HostRuntime) -> Result<(), Fail> {
+    let words = words_of(rt.alloc(), &[5, 1, 0, 0, 2, 0, 0, 5, AT, 0, 1, 0, 5, AT, 0])?;
+    let vertex = VertexHolder::read(rt.alloc(), &words)?.ok_or("a vertex")?;
+    let outward = EdgeRecord {
+        inward: false,
+        ordinal: 0,
+        other: 5,
+        other_at: DPtr::new(1, 81),
+        form: EdgeForm::Plain,
+    };
+    let inward = EdgeRecord {
+        inward: true,
+        ..outward
+    };
+    assert_eq!(rt; (vertex.id, vertex.next), (5, 1));
+    assert_eq!(rt; vertex.edges.as_slice(), [outward, inward].as_slice());
+    Ok(())
+}

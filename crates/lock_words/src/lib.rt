@@ -1,0 +1,15 @@
+//! Lock and gate words as counts, and when a word stands in the way of a want.
+#![tactic(auto)]
+
+mod conflict;
+mod laws;
+#[cfg(test)]
+mod tests;
+mod want;
+
+pub use conflict::conflicts;
+pub use laws::{conflicts_by_counts, gate_words_count, lock_words_count};
+pub use want::Want;
+
+/// The mark in a lock word: its object is one view's alone. The bits below count shares.
+pub const MARK: u64 = 1 << 32;
