@@ -4,6 +4,8 @@ pub mod Holding
 pub mod Making
 pub mod Maps
 pub mod Placing
+pub mod Staying
+pub mod Working
 pub mod PlainFacts
 pub mod Opening
 pub mod Whole

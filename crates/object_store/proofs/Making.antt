@@ -4,7 +4,7 @@ use Rattle.std.specs.Prelude.{is_some}
 use Rattle.atomic_table.specs.Seated.{TableId}
 use Rattle.rma_layout.specs.Shape.{Shape}
 use Rattle.rma_layout.specs.Placement.{Place}
-use Rattle.object_words.specs.Contents.{Contents, content_of, words_at, with_words, is_empty, IsSameContents}
+use Rattle.object_words.specs.Contents.{Contents, content_of, words_at, with_words, is_empty, Agrees, IsSameContents}
 use Rattle.object_words.specs.Blocks.{empty_objects}
 use Rattle.object_words.specs.Entries.{store_after}
 use Rattle.object_store.specs.declared.phase.Phase.TheVariants.{Writing}
@@ -17,6 +17,7 @@ use Rattle.object_store.specs.Refusals.{RefusesFresh}
 use Rattle.object_store.specs.Ledger.{Account}
 use Rattle.object_store.specs.Plain.{plain_state, IsFirstVacant, IsNoneVacant}
 use Rattle.object_store.proofs.Committing.{no_transaction}
+use Rattle.object_store.proofs.Staying.{stays_read}
 use Rattle.object_store.proofs.Counting.{all_made, not_all_made}
 
 vacant_parts : (words : List ℕ) (found : Option (List ℕ)) → (is_empty words && not (is_some found)) ≡ true → (words ≡ []) × (found ≡ None)
@@ -33,9 +34,9 @@ module _ {N : Type 0} (shape new_shape : Shape) (table now : TableId) (txn new_t
 
   pub fresh_done : (object : Place) → new_shape ≡ shape → new ≡ account → txn.phase ≡ Writing
       → new_txn ≡ record { phase = Writing; reads = with_words txn.reads object []; writes = with_words txn.writes object [] }
-      → IsSameContents committed (store_after account.seen) → IsFirstVacant shape committed txn.writes home object → home < shape.ranks
+      → IsSameContents committed (store_after account.seen) → Agrees txn.reads (store_after account.seen) → IsFirstVacant shape committed txn.writes home object → home < shape.ranks
       → MakesObject home (plain_state shape table txn account) (plain_state new_shape now new_txn new) object
-  fresh_done object s is phase made same first below =
+  fresh_done object s is phase made same agrees first below =
       let parts = vacant_parts (content_of committed object) (words_at txn.writes object) first.vacant in
       record {
         rank = first.on;
@@ -50,6 +51,8 @@ module _ {N : Type 0} (shape new_shape : Shape) (table now : TableId) (txn new_t
           commits = keeps is;
           most = ap (λ sh. Some (λ rank. empty_objects sh (store_after new.seen) rank)) s ∙ ap (λ a. Some (λ rank. empty_objects shape (store_after a.seen) rank)) is;
           strict = refl;
+          reads = λ other words h. ap (λ t. words_at t.reads other) made
+              ∙ stays_read txn.reads (store_after account.seen) object [] agrees (sym (same object) ∙ parts.0) other words h;
         };
         most = λ most told.
             let less = not_all_made shape committed (store_after account.seen) txn.writes home object same first in

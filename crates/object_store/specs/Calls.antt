@@ -82,3 +82,9 @@ module _ {N : Type 0} where
   pub record Aborts (old new : StoreState N) : Type 0 where
     pub commits : KeepsCommits old new
     pub ended : IsEnded new
+
+  -- a call that does its work by several of these has read and written no objects but those that are told
+  pub record Reaches (Reached : Place → Type 0) (old new : StoreState N) : Type 0 where
+    pub reads : (object : Place) → Reached object ⊎ (words_at new.reads object ≡ words_at old.reads object)
+    pub writes : (object : Place) → Reached object ⊎ (words_at new.writes object ≡ words_at old.writes object)
+    pub goes_on : GoesOn old new

@@ -41,3 +41,10 @@ module _ {N : Type 0} where
     pub names : (named ≡ names_nothing) ⊎ ((rank : ℕ) × (named ≡ names_rank rank))
     -- a store that tells its most is refused for memory, or, if it is strict, by the name of the first rank without room
     pub memory : IsSome old.most → for_memory ⊎ ((old.strict ≡ true) × ((rank : ℕ) × (named ≡ names_rank rank) × IsFirstWithoutRoom old.shape (committed old) old.writes rank))
+
+  -- of a call that does its work by several of these, and reaches no objects but those that are told
+  pub record RefusesReach (Reached : Place → Type 0) (old new : StoreState N) (named : Named) (for_memory : Type 0) : Type 0 where
+    pub aborted : Aborts old new
+    -- nothing, or an object that the call may reach or that was read
+    pub names : (named ≡ names_nothing) ⊎ ((object : Place) × (named ≡ names_object object) × (Reached object ⊎ IsSome (words_at old.reads object)))
+    pub memory : IsSome old.most → for_memory

@@ -1,9 +1,10 @@
 -- What holds of a store at every moment, and what every call keeps.
-use Rattle.std.specs.Prelude.{◌≡◌, ◌≢◌, true, [], length, ◌⊎◌, IsSome}
+use Rattle.std.specs.Prelude.{◌≡◌, ◌≢◌, ℕ, true, List, [], length, ◌⊎◌, Some, IsSome}
 use Rattle.std.specs.List.{All, range_with_len}
 use mathlib.Core.List.{IsPrefix}
 use Rattle.rma_layout.specs.Shape.{Shape}
-use Rattle.object_words.specs.Contents.{Agrees, IsInOrder}
+use Rattle.rma_layout.specs.Placement.{Place}
+use Rattle.object_words.specs.Contents.{Agrees, IsInOrder, words_at}
 use Rattle.object_words.specs.Entries.{Entry, ReadsAgree, RoomSufficed}
 use Rattle.object_store.specs.declared.phase.Phase.TheVariants.{Idle, Writing}
 use Rattle.object_store.specs.State.{StoreState, HasEveryRight, committed}
@@ -51,9 +52,10 @@ pub record IsEnded {N : Type 0} (new : StoreState N) : Type 0 where
   pub reads : new.reads ≡ []
   pub writes : new.writes ≡ []
 
--- the transaction goes on as it was begun
+-- the transaction goes on as it was begun, and what was read stays read
 pub record GoesOn {N : Type 0} (old new : StoreState N) : Type 0 where
   pub phase : new.phase ≡ old.phase
   pub commits : KeepsCommits old new
   pub most : new.most ≡ old.most
   pub strict : new.strict ≡ old.strict
+  pub reads : (object : Place) (words : List ℕ) → words_at old.reads object ≡ Some words → words_at new.reads object ≡ Some words

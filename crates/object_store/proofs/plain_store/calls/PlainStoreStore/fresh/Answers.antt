@@ -13,4 +13,4 @@ returns-in-Ok-clause-done g c =
     let self = c.args.self.now in
     let made = c.try_make.new.self in
     fresh_done self.geometry made.geometry self.ledger.seat.table_id made.ledger.seat.table_id self.txn made.txn self.ledger.seat.me.0 made.ledger.seat.me.0 self.committed c.args.home
-    c.in-Some.at c.in-Ok.ensures.history.0 (ap (λ ledger. ledger.seat.me.0) c.in-Ok.ensures.history.1 ∙ c.look.ensures.same) c.requires.begun c.in-Ok.ensures.ok self.same c.in-Some.ensures c.requires.rank
+    c.in-Some.at c.in-Ok.ensures.history.0 (ap (λ ledger. ledger.seat.me.0) c.in-Ok.ensures.history.1 ∙ c.look.ensures.same) c.requires.begun c.in-Ok.ensures.ok self.same self.agrees c.in-Some.ensures c.requires.rank
