@@ -6,8 +6,8 @@ use Rattle.std.proofs.lemmas.List.{append-nil, nil_from_length, length-append}
 use Rattle.std.proofs.lemmas.List.Concat.{flat_map-cons}
 use Rattle.holder_codec.specs.declared.bucket_entry.BucketEntry.{BucketEntry}
 use Rattle.holder_codec.specs.declared.bucket_holder.BucketHolder.{BucketHolder}
-use Rattle.holder_codec.specs.Reading.{IsWords, ◌>>=◌, number_at, place_at, rising_at}
-use Rattle.holder_codec.specs.Bucket.{entry_words, bucket_words, is_entry_before, EntryFits, IsBucketHolder, entry_at, bucket_of_words}
+use Rattle.holder_codec.specs.Reading.{IsWords, ◌>>=◌, number_at, place_at, rising_at, entry_at, bucket_of_words}
+use Rattle.holder_codec.specs.Bucket.{entry_words, bucket_words, is_entry_before, EntryFits, IsBucketHolder}
 use Rattle.holder_codec.proofs.ReadLaws.{IsWords-rest, bind_some, guard_some, some_is, Reads, parts_then, one_word, numbers, place_words, places, rising_takes, rising_again}
 
 entry_takes : (words : List ℕ) (x : BucketEntry × List ℕ) → IsWords words → entry_at words ≡ Some x → (words ≡ entry_words x.0 ++ x.1) × EntryFits x.0

@@ -8,9 +8,8 @@ use Rattle.object_words.specs.Chains.{place_of}
 use Rattle.holder_codec.specs.declared.edge_form.EdgeForm.{EdgeForm}
 use Rattle.holder_codec.specs.declared.edge_form.EdgeForm.TheVariants.{Plain, Labelled, Heavy}
 use Rattle.holder_codec.specs.declared.edge_record.EdgeRecord.{EdgeRecord}
-use Rattle.holder_codec.specs.Reading.{IsWords, ◌>>=◌, number_at, place_at}
-use Rattle.holder_codec.specs.Values.{bool_at, narrow}
-use Rattle.holder_codec.specs.Edges.{form_word, FormFits, record_words, RecordFits, form_of, record_at}
+use Rattle.holder_codec.specs.Reading.{IsWords, ◌>>=◌, number_at, place_at, bool_at, narrow, form_of, record_at}
+use Rattle.holder_codec.specs.Edges.{form_word, FormFits, record_words, RecordFits}
 use Rattle.holder_codec.proofs.ReadLaws.{IsWords-rest, bind_some, bind_then, some_is, Reads, one_word, numbers, five_words, place_words, places, raw_of-place_of, place_of-raw_of}
 use Rattle.holder_codec.proofs.ValueLaws.{bool_words, bools, narrow_is, narrow_again}
 

@@ -13,12 +13,13 @@ use Rattle.holder_codec.specs.declared.edge_record.EdgeRecord.{EdgeRecord}
 use Rattle.holder_codec.specs.declared.vertex_holder.VertexHolder.{VertexHolder}
 use Rattle.holder_codec.specs.Values.{value_words, prop_words}
 use Rattle.holder_codec.specs.Edges.{record_words}
-use Rattle.holder_codec.specs.Bucket.{IsBucketHolder, bucket_words, bucket_of_words}
-use Rattle.holder_codec.specs.Vertex.{IsVertexHolder, label_words, vertex_words, vertex_of_words}
+use Rattle.holder_codec.specs.Bucket.{IsBucketHolder, bucket_words}
+use Rattle.holder_codec.specs.Vertex.{IsVertexHolder, label_words, vertex_words}
 use Rattle.holder_codec.proofs.ReadLaws.{some_is}
 use Rattle.holder_codec.proofs.TextLaws.{length-words_from}
 use Rattle.holder_codec.proofs.Buckets.{bucket_again}
 use Rattle.holder_codec.proofs.VertexLaws.{vertex_again}
+use Rattle.holder_codec.specs.Reading.{bucket_of_words, vertex_of_words}
 
 pub bucket_same : (one other : BucketHolder) → IsBucketHolder one → IsBucketHolder other → bucket_words one ≡ bucket_words other → one ≡ other
 bucket_same one other f g e = some_is one other (sym (bucket_again one f) ∙ ap bucket_of_words e ∙ bucket_again other g)

@@ -6,3 +6,10 @@ pub mod EdgeLaws
 pub mod VertexLaws
 pub mod Lengths
 pub mod Buckets
+pub mod Maps
+pub mod Leading
+pub mod Telling
+pub mod Fitting
+pub mod SameVertices
+pub mod OneGraph
+pub mod Parts

@@ -7,8 +7,8 @@ use Rattle.std.proofs.lemmas.List.Concat.{flat_map-cons}
 use Rattle.std.proofs.lemmas.Grind.{same_number_lists}
 use Rattle.std.proofs.lemmas.Nat.{le_bytes_8, from_le_bytes-to_le_bytes_8}
 use Rattle.graph_model.specs.Sizes.{words_of_bytes}
-use Rattle.holder_codec.specs.Reading.{IsWords}
-use Rattle.holder_codec.specs.Texts.{words_from, byte_words, bytes_of, are_zero, bytes_at}
+use Rattle.holder_codec.specs.Reading.{IsWords, bytes_of, are_zero, bytes_at}
+use Rattle.holder_codec.specs.Texts.{words_from, byte_words}
 use Rattle.holder_codec.proofs.ReadLaws.{guard_some}
 
 abbrev pub IsBytes : List ℕ → Type 0

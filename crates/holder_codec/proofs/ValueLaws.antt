@@ -20,22 +20,22 @@ use Rattle.gdi_kinds.specs.declared.value.Kind.TheVariants as kind
 use Rattle.gdi_kinds.specs.Constraint.{kind_of}
 use Rattle.graph_model.specs.WellFormed.{IsValue}
 use Rattle.holder_codec.specs.declared.held_prop.HeldProp.{HeldProp}
-use Rattle.holder_codec.specs.Reading.{IsWords, Fails, unread_of, ◌>>=◌, number_at}
-use Rattle.holder_codec.specs.Texts.{byte_words, bytes_at, is_text, text_at}
-use Rattle.holder_codec.specs.Values.{kind_code, kind_of_code, byte_length, value_words, prop_words, PropFits, bool_of, bool_at, value_at, narrow, prop_at}
+use Rattle.holder_codec.specs.Reading.{IsWords, Fails, unread_of, ◌>>=◌, number_at, bytes_at, is_text, text_at, kind_of_code, bool_of, bool_at, value_at, narrow, prop_at}
+use Rattle.holder_codec.specs.Texts.{byte_words}
+use Rattle.holder_codec.specs.Values.{kind_code, byte_length, value_words, prop_words, PropFits}
 use Rattle.holder_codec.proofs.ReadLaws.{IsWords-rest, bind_some, bind_then, guard_some, some_is, Reads, one_word, numbers}
 use Rattle.holder_codec.proofs.TextLaws.{IsBytes, bytes_takes, bytes_again}
 
 -- ---- the bytes of a text
 
-abbrev AreBytes : List ℕ → Type 0
+abbrev pub AreBytes : List ℕ → Type 0
 AreBytes bytes = AllByRecursion (λ b. b < 256) bytes
 
 AreBytes-append : (xs ys : List ℕ) → AreBytes xs → AreBytes ys → AreBytes (xs ++ ys)
 AreBytes-append [] ys a b = b
 AreBytes-append (x ∷ xs) ys a b = (a.0, AreBytes-append xs ys a.1 b)
 
-AreBytes-at : (xs : List ℕ) → AreBytes xs → IsBytes xs
+pub AreBytes-at : (xs : List ℕ) → AreBytes xs → IsBytes xs
 AreBytes-at [] all i = omega arith
 AreBytes-at (x ∷ xs) all zero = all.0
 AreBytes-at (x ∷ xs) all (suc i) = AreBytes-at xs all.1 i
@@ -146,7 +146,7 @@ kind_of_code_is (suc zero) k e = ap kind_code (some_is kind.Bool k e)
 kind_of_code_is (suc (suc zero)) k e = ap kind_code (some_is kind.Text k e)
 kind_of_code_is (suc (suc (suc n))) k e = absurd cc
 
-kind_of_code_again : (k : Kind) → kind_of_code (kind_code k) ≡ Some k
+pub kind_of_code_again : (k : Kind) → kind_of_code (kind_code k) ≡ Some k
 kind_of_code_again kind.Int = refl
 kind_of_code_again kind.Bool = refl
 kind_of_code_again kind.Text = refl

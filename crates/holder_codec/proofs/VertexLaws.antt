@@ -7,10 +7,10 @@ use Rattle.std.proofs.lemmas.List.{append-nil, nil_from_length}
 use Rattle.holder_codec.specs.declared.held_prop.HeldProp.{HeldProp}
 use Rattle.holder_codec.specs.declared.edge_record.EdgeRecord.{EdgeRecord}
 use Rattle.holder_codec.specs.declared.vertex_holder.VertexHolder.{VertexHolder}
-use Rattle.holder_codec.specs.Reading.{IsWords, ◌>>=◌, number_at, rising_at}
-use Rattle.holder_codec.specs.Values.{narrow, prop_words, PropFits, prop_at, is_prop_before}
-use Rattle.holder_codec.specs.Edges.{record_words, RecordFits, record_at, is_record_before}
-use Rattle.holder_codec.specs.Vertex.{label_words, LabelFits, label_at, vertex_words, IsVertexHolder, vertex_of_words}
+use Rattle.holder_codec.specs.Reading.{IsWords, ◌>>=◌, number_at, rising_at, narrow, prop_at, record_at, label_at, vertex_of_words}
+use Rattle.holder_codec.specs.Values.{prop_words, PropFits, is_prop_before}
+use Rattle.holder_codec.specs.Edges.{record_words, RecordFits, is_record_before}
+use Rattle.holder_codec.specs.Vertex.{label_words, LabelFits, vertex_words, IsVertexHolder}
 use Rattle.holder_codec.proofs.ReadLaws.{IsWords-rest, bind_some, bind_then, guard_some, some_is, Reads, one_word, numbers, five_words, rising_takes, rising_again}
 use Rattle.holder_codec.proofs.ValueLaws.{narrow_is, narrow_again, props}
 use Rattle.holder_codec.proofs.EdgeLaws.{records}

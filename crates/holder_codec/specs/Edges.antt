@@ -1,13 +1,10 @@
 -- The records of edges at a vertex.
-use Rattle.std.specs.Prelude.{ℕ, ◌+◌, ◌-◌, ◌^◌, ◌<◌, Bool, ◌&&◌, ◌||◌, List, [], ◌∷◌, Option, Some, nat_lt, ◌==◌, if◌then◌else◌}
+use Rattle.std.specs.Prelude.{ℕ, ◌+◌, ◌^◌, ◌<◌, Bool, ◌&&◌, ◌||◌, List, [], ◌∷◌, nat_lt, ◌==◌, if◌then◌else◌}
 use Rattle.std.specs.Int.{from_bool}
 use Rattle.rma_layout.specs.Placement.{raw_of, FitsOneWord}
-use Rattle.object_words.specs.Chains.{place_of}
 use Rattle.holder_codec.specs.declared.edge_form.EdgeForm.{EdgeForm}
 use Rattle.holder_codec.specs.declared.edge_form.EdgeForm.TheVariants.{Plain, Labelled, Heavy}
 use Rattle.holder_codec.specs.declared.edge_record.EdgeRecord.{EdgeRecord}
-use Rattle.holder_codec.specs.Reading.{◌>>=◌, number_at, place_at}
-use Rattle.holder_codec.specs.Values.{bool_at, narrow}
 
 -- no label, a label, or the object that holds the edge
 abbrev pub form_word : EdgeForm → ℕ
@@ -36,18 +33,3 @@ pub record RecordFits (edge : EdgeRecord) : Type 0 where
   pub other : edge.other < 2 ^ 64
   pub other_at : FitsOneWord edge.other_at
   pub form : FormFits edge.form
-
-unfoldable pub form_of : ℕ → Option EdgeForm
-form_of word =
-    if word == 0 then Some Plain
-    else (if nat_lt word (2 ^ 63) then (narrow (word - 1) >>= λ label. Some (Labelled label)) else Some (Heavy (place_of (word - 2 ^ 63))))
-
-unfoldable pub record_at : List ℕ → Option (EdgeRecord × List ℕ)
-record_at words = do
-  inward ← bool_at words
-  ordinal ← number_at inward.1
-  other ← number_at ordinal.1
-  other_at ← place_at other.1
-  word ← number_at other_at.1
-  form ← form_of word.0
-  Some (record { inward = inward.0; ordinal = ordinal.0; other = other.0; other_at = other_at.0; form = form }, word.1)

@@ -1,9 +1,11 @@
 pub mod Order
-pub mod Reading
 pub mod Texts
 pub mod Values
 pub mod Edges
 pub mod Bucket
 pub mod Vertex
+pub mod Reading
 pub mod Holders
 pub mod Represents
+pub mod Parts
+pub mod Keeping

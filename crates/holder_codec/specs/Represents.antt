@@ -1,13 +1,15 @@
 -- When the contents of a window's objects represent a graph.
-use Rattle.std.specs.Prelude.{◌≡◌, ◌≢◌, ℕ, ◌<◌, ◌≤◌, true, false, ◌&&◌, List, [], ◌∷◌, ◌++◌, map, length, if◌then◌else◌}
+use Rattle.std.specs.Prelude.{◌≡◌, ◌≢◌, ℕ, ◌^◌, ◌<◌, ◌≤◌, true, false, ◌&&◌, List, [], ◌∷◌, ◌++◌, map, length, if◌then◌else◌}
 use Rattle.std.specs.Option.{unwrap_or}
 use Rattle.std.specs.List.{flat_map, filter, range_with_len, AllByRecursion}
 use Rattle.std.specs.FinMap.{find}
+use Rattle.std.specs.Ordering.{nat_cmp}
 use Rattle.rma_layout.specs.Shape.{Shape}
-use Rattle.rma_layout.specs.Placement.{Place, same_place, home_of, bucket_of, slot_of, metadata, IsReserved}
+use Rattle.rma_layout.specs.Placement.{Place, FitsOneWord, same_place, home_of, bucket_of, slot_of, metadata, IsReserved}
 use Rattle.object_words.specs.Contents.{Contents, content_of}
-use Rattle.graph_model.specs.Maps.{Map, at, keys, has}
+use Rattle.graph_model.specs.Maps.{Map, IsMap, at, keys, has}
 use Rattle.graph_model.specs.Graph.{Name, PropType, Graph, Vertex, Edge, EdgeKey, edge_cmp, edges_from, edges_to, is_heavy}
+use Rattle.graph_model.specs.Sizes.{most_words}
 use Rattle.graph_model.specs.WellFormed.{IsWellFormed}
 use Rattle.holder_codec.specs.declared.bucket_entry.BucketEntry.{BucketEntry}
 use Rattle.holder_codec.specs.declared.edge_form.EdgeForm.{EdgeForm}
@@ -59,6 +61,13 @@ entries_of shape vertices place =
 abbrev pub HasBuckets : Shape → Contents → VertexObjects → Type 0
 HasBuckets shape store vertices = (place : Place) → IsBucket shape place →
     content_of store place ≡ bucket_words (record { entries = entries_of shape vertices place })
+
+-- the buckets lead from these identifiers to these objects, and from no others
+pub record BucketsLead (shape : Shape) (store : Contents) (vertices : VertexObjects) : Type 0 where
+  pub rising : IsMap nat_cmp vertices
+  pub each : AllByRecursion (λ entry. (entry.0 < 2 ^ 64) × FitsOneWord entry.1) vertices
+  pub buckets : HasBuckets shape store vertices
+  pub within : (place : Place) → IsBucket shape place → length (content_of store place) ≤ most_words
 
 -- a heavy edge has an object; another has a label at most
 abbrev pub light_form : List ℕ → EdgeForm
@@ -142,6 +151,8 @@ pub record IsRepresented (shape : Shape) (store : Contents) (g : Graph) (vertice
   pub index : HasIndex shape store (length g.labels) g.vertices
   pub apart : AreApart (places_of vertices ++ places_of edges)
   pub rest : RestIsEmpty shape store (places_of vertices ++ places_of edges)
+  -- no object has more words than an object may have
+  pub within : (place : Place) → length (content_of store place) ≤ most_words
 
 -- a store represents a graph that is well formed
 pub record Represents (shape : Shape) (store : Contents) (g : Graph) : Type 0 where

@@ -1,5 +1,6 @@
 ghost use Rattle.std.specs.Prelude.{◌≡◌};
-ghost use Rattle.holder_codec.specs.Bucket.{EntryFits, entry_words, entry_at, is_entry_before};
+ghost use Rattle.holder_codec.specs.Bucket.{EntryFits, entry_words, is_entry_before};
+ghost use Rattle.holder_codec.specs.Reading.{entry_at};
 
 use crate::item::Item;
 use crate::unread::Unread;
@@ -33,7 +34,7 @@ impl Item for BucketEntry {
         out.push(self.at.raw())
     }
 
-    #[tactic(auto, unfolding(crate::specs::Bucket::entry_at))]
+    #[tactic(auto, unfolding(crate::specs::Reading::entry_at))]
     fn read_from(_alloc: Global, words: &mut &[u64]) -> Result<BucketEntry, Unread> {
         let id = read_number(words)?;
         let at = read_pointer(words)?;

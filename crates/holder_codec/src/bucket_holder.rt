@@ -1,7 +1,7 @@
 ghost use Rattle.std.specs.Prelude.{◌≡◌, ◌≢◌, IfOk, MatchOption};
 ghost use Rattle.holder_codec.specs.declared.bucket_holder.BucketHolder.{BucketHolder};
-ghost use Rattle.holder_codec.specs.Bucket.{IsBucketHolder, bucket_words, bucket_of_words};
-ghost use Rattle.holder_codec.specs.Reading.{IsWords, Gives};
+ghost use Rattle.holder_codec.specs.Bucket.{IsBucketHolder, bucket_words};
+ghost use Rattle.holder_codec.specs.Reading.{IsWords, Gives, bucket_of_words};
 
 use crate::bucket_entry::BucketList;
 use crate::items::{read_rising, write_all};
@@ -41,7 +41,7 @@ impl BucketHolder {
     }
 }
 
-#[tactic(auto, unfolding(crate::specs::Bucket::bucket_of_words))]
+#[tactic(auto, unfolding(crate::specs::Reading::bucket_of_words))]
 fn all(alloc: Global, words: &[u64]) -> Result<BucketHolder, Unread>
     ensures gives { Gives (λ bucket. bucket) result (bucket_of_words words.now) }
     ensures words { IsWords words.now }

@@ -1,6 +1,6 @@
 ghost use Rattle.std.specs.Prelude.{◌≡◌};
-ghost use Rattle.holder_codec.specs.Reading.{Gives};
-ghost use Rattle.holder_codec.specs.Edges.{FormFits, form_word, form_of};
+ghost use Rattle.holder_codec.specs.Reading.{Gives, form_of};
+ghost use Rattle.holder_codec.specs.Edges.{FormFits, form_word};
 
 use crate::unread::Unread;
 use crate::words::{narrow, pointer_of};
@@ -32,7 +32,7 @@ pub(crate) fn word_of_form(form: EdgeForm) -> u64
 }
 
 /// The form that has a word.
-#[tactic(auto, unfolding(crate::specs::Edges::form_of))]
+#[tactic(auto, unfolding(crate::specs::Reading::form_of))]
 pub(crate) fn form_of(word: u64) -> Result<EdgeForm, Unread>
     ensures { Gives (λ form. form) result (form_of word) }
 {

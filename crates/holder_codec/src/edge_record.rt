@@ -1,5 +1,6 @@
 ghost use Rattle.std.specs.Prelude.{◌≡◌};
-ghost use Rattle.holder_codec.specs.Edges.{RecordFits, record_words, record_at, is_record_before};
+ghost use Rattle.holder_codec.specs.Edges.{RecordFits, record_words, is_record_before};
+ghost use Rattle.holder_codec.specs.Reading.{record_at};
 
 use crate::edge_form::{EdgeForm, form_of, word_of_form};
 use crate::item::Item;
@@ -44,7 +45,7 @@ impl Item for EdgeRecord {
         out.push(word_of_form(self.form))
     }
 
-    #[tactic(auto, unfolding(crate::specs::Edges::record_at))]
+    #[tactic(auto, unfolding(crate::specs::Reading::record_at))]
     fn read_from(_alloc: Global, words: &mut &[u64]) -> Result<EdgeRecord, Unread> {
         let inward = read_bool(words)?;
         let ordinal = read_number(words)?;

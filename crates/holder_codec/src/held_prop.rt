@@ -1,5 +1,6 @@
 ghost use Rattle.std.specs.Prelude.{◌≡◌};
-ghost use Rattle.holder_codec.specs.Values.{PropFits, prop_words, prop_at, is_prop_before};
+ghost use Rattle.holder_codec.specs.Values.{PropFits, prop_words, is_prop_before};
+ghost use Rattle.holder_codec.specs.Reading.{prop_at};
 
 use crate::item::Item;
 use crate::unread::Unread;
@@ -34,7 +35,7 @@ impl Item for HeldProp {
         write_value(&self.value, out)
     }
 
-    #[tactic(auto, unfolding(crate::specs::Values::prop_at))]
+    #[tactic(auto, unfolding(crate::specs::Reading::prop_at))]
     fn read_from(alloc: Global, words: &mut &[u64]) -> Result<HeldProp, Unread> {
         let head = read_number(words)?;
         let size = read_number(words)?;

@@ -1,5 +1,6 @@
 ghost use Rattle.std.specs.Prelude.{◌≡◌, nat_lt};
-ghost use Rattle.holder_codec.specs.Vertex.{LabelFits, label_words, label_at};
+ghost use Rattle.holder_codec.specs.Vertex.{LabelFits, label_words};
+ghost use Rattle.holder_codec.specs.Reading.{label_at};
 
 use crate::item::Item;
 use crate::unread::Unread;
@@ -22,7 +23,7 @@ impl Item for u32 {
         out.push(u64::from(*self))
     }
 
-    #[tactic(auto, unfolding(crate::specs::Vertex::label_at))]
+    #[tactic(auto, unfolding(crate::specs::Reading::label_at))]
     fn read_from(_alloc: Global, words: &mut &[u64]) -> Result<u32, Unread> {
         narrow(read_number(words)?)
     }

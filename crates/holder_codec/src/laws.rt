@@ -1,12 +1,14 @@
 ghost use Rattle.std.specs.Prelude.{◌≡◌, ◌+◌, ◌*◌, [], length, sum_by};
 ghost use Rattle.rma_layout.specs.Shape.{Shape};
-ghost use Rattle.graph_model.specs.Graph.{empty_graph};
+ghost use Rattle.rma_layout.specs.Ranges.{IsInRange};
+ghost use Rattle.object_words.specs.Contents.{Contents};
+ghost use Rattle.graph_model.specs.Graph.{Graph, empty_graph};
 ghost use Rattle.graph_model.specs.Sizes.{words_of_value};
 ghost use Rattle.holder_codec.specs.declared.bucket_holder.BucketHolder.{BucketHolder};
 ghost use Rattle.holder_codec.specs.declared.vertex_holder.VertexHolder.{VertexHolder};
 ghost use Rattle.holder_codec.specs.Bucket.{IsBucketHolder, bucket_words};
 ghost use Rattle.holder_codec.specs.Vertex.{IsVertexHolder, vertex_words};
-ghost use Rattle.holder_codec.specs.Represents.{Represents};
+ghost use Rattle.holder_codec.specs.Represents.{VertexObjects, BucketsLead, Represents};
 
 /// No two buckets have the same words, and no two vertices.
 pub fn spellings_differ()
@@ -27,4 +29,12 @@ pub fn words_are_counted()
 /// A store without a word represents the graph without a vertex.
 pub fn empty_store_represents_empty_graph()
     ensures { (shape : Shape) → Represents shape [] empty_graph }
+{}
+
+/// The buckets fix the objects of the vertices, and a store represents one graph at most.
+pub fn store_represents_one_graph()
+    ensures leads { (shape : Shape) (store : Contents) (g : Graph) (represents : Represents shape store g) → IsInRange shape → BucketsLead shape store represents.vertices }
+    ensures objects { (shape : Shape) (store : Contents) (one other : VertexObjects) → IsInRange shape → BucketsLead shape store one → BucketsLead shape store other → one ≡ other }
+    ensures edge_objects { (shape : Shape) (store : Contents) (g : Graph) (one other : Represents shape store g) → IsInRange shape → one.edges ≡ other.edges }
+    ensures graph { (shape : Shape) (store : Contents) (one other : Graph) → IsInRange shape → Represents shape store one → Represents shape store other → one ≡ other }
 {}

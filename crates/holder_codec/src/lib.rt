@@ -8,8 +8,10 @@ mod edge_record;
 mod held_prop;
 mod item;
 mod items;
+mod keeps_graph;
 mod label;
 mod laws;
+mod part_laws;
 #[cfg(test)]
 mod tests;
 mod texts;
@@ -23,5 +25,12 @@ pub use bucket_holder::BucketHolder;
 pub use edge_form::EdgeForm;
 pub use edge_record::{EdgeRecord, EdgeRecords};
 pub use held_prop::{HeldProp, HeldProps};
-pub use laws::{empty_store_represents_empty_graph, spellings_differ, words_are_counted};
+pub use keeps_graph::KeepsGraph;
+pub use laws::{
+    empty_store_represents_empty_graph, spellings_differ, store_represents_one_graph,
+    words_are_counted,
+};
+pub use part_laws::{
+    buckets_alone, parts_look_at_their_own_objects, same_contents_represent_the_same,
+};
 pub use vertex_holder::VertexHolder;

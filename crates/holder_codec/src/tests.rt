@@ -1,14 +1,53 @@
+ghost use Rattle.rma_layout.specs.Shape.{Shape};
+ghost use Rattle.object_words.specs.Contents.{Contents, Agrees, overlay};
+ghost use Rattle.object_words.specs.Entries.{Entry};
+ghost use Rattle.graph_model.specs.Graph.{Graph};
+ghost use Rattle.holder_codec.specs.Represents.{Represents};
+ghost use Rattle.holder_codec.specs.Keeping.{keeps_by_steps};
+
 use crate::{
-    BucketHolder, EdgeForm, EdgeRecord, VertexHolder, spellings_differ, words_are_counted,
+    BucketHolder, EdgeForm, EdgeRecord, KeepsGraph, VertexHolder, buckets_alone,
+    empty_store_represents_empty_graph, parts_look_at_their_own_objects,
+    same_contents_represent_the_same, spellings_differ, store_represents_one_graph,
+    words_are_counted,
 };
 use gdi_kinds::{NoMemory, Value};
-use object_words::Words;
+use object_words::{Law, Words};
 use rma_layout::DPtr;
 use std::alloc::Global;
 use std::test::Fail;
 
 /// Block 81 of rank 1.
 const AT: u64 = 281_474_976_710_737;
+
+/// An entry fits exactly where each store that represents a graph, and in which it reads what it read, represents one
+/// once its writes are put over it.
+struct Keeping;
+
+impl Law for Keeping {
+    type Note = ();
+
+    ghost fits = { λ shape entry. (store : Contents) (g : Graph) → Represents shape store g → Agrees entry.reads store →
+        (h : Graph) × Represents shape (overlay store entry.writes) h };
+}
+
+impl KeepsGraph for Keeping {
+    ghost keeps_graph = { keeps_by_steps Self.fits (λ shape entry store g _ fits is agrees. fits store g is agrees) };
+}
+
+fn is_kept<L: KeepsGraph>() {}
+
+#[test]
+fn laws(_rt: HostRuntime) {
+    spellings_differ();
+    store_represents_one_graph();
+    words_are_counted();
+    empty_store_represents_empty_graph();
+    parts_look_at_their_own_objects();
+    buckets_alone();
+    same_contents_represent_the_same();
+    is_kept::<Keeping>();
+}
 
 fn words_of(alloc: Global, numbers: &[u64]) -> Result<Words, NoMemory> {
     let mut words = Words::new(alloc);
@@ -34,8 +73,6 @@ fn buckets(rt: HostRuntime) -> Result<(), Fail> {
         let found = BucketHolder::read(rt.alloc(), &words)?;
         assert!(rt; found.is_none(), "{numbers:?}");
     }
-    spellings_differ();
-    words_are_counted();
     Ok(())
 }
 

@@ -1,7 +1,7 @@
 ghost use Rattle.std.specs.Prelude.{◌≡◌, ◌≤◌, ◌++◌, length, OnOk, IfOk};
 ghost use Rattle.std.specs.Int.{w64, from_le_bytes};
-ghost use Rattle.holder_codec.specs.Reading.{Gives};
-ghost use Rattle.holder_codec.specs.Texts.{byte_words, bytes_of, bytes_at, text_at, are_zero};
+ghost use Rattle.holder_codec.specs.Reading.{Gives, bytes_of, bytes_at, text_at, are_zero};
+ghost use Rattle.holder_codec.specs.Texts.{byte_words};
 
 use crate::unread::Unread;
 use gdi_kinds::{NoMemory, Text};
@@ -32,7 +32,7 @@ fn word_of(bytes: &[u8]) -> u64
 }
 
 /// So many bytes that the words begin with.
-#[tactic(auto, unfolding(crate::specs::Texts::bytes_at))]
+#[tactic(auto, unfolding(crate::specs::Reading::bytes_at))]
 pub(crate) fn read_bytes(alloc: Global, count: u64, words: &mut &[u64]) -> Result<Vec<u8>, Unread>
     ensures { Gives (λ bytes. (bytes.items, words.new.now)) result (bytes_at count words.old.now) }
 {
@@ -69,7 +69,7 @@ fn are_zero(bytes: &[u8]) -> bool
 }
 
 /// The text of so many bytes that the words begin with.
-#[tactic(auto, unfolding(crate::specs::Texts::text_at))]
+#[tactic(auto, unfolding(crate::specs::Reading::text_at))]
 pub(crate) fn read_text(alloc: Global, count: u64, words: &mut &[u64]) -> Result<Text, Unread>
     ensures { Gives (λ text. (text, words.new.now)) result (text_at count words.old.now) }
 {

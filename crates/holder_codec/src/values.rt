@@ -1,7 +1,7 @@
 ghost use Rattle.std.specs.Prelude.{◌≡◌, ◌<◌, ◌++◌, OnOk};
 ghost use Rattle.gdi_kinds.specs.Constraint.{kind_of};
-ghost use Rattle.holder_codec.specs.Reading.{Gives};
-ghost use Rattle.holder_codec.specs.Values.{kind_code, kind_of_code, byte_length, value_words, value_at};
+ghost use Rattle.holder_codec.specs.Reading.{Gives, kind_of_code, value_at};
+ghost use Rattle.holder_codec.specs.Values.{kind_code, byte_length, value_words};
 
 use crate::texts::{read_text, write_bytes};
 use crate::unread::Unread;
@@ -68,7 +68,7 @@ pub(crate) fn write_value(value: &Value, out: &mut Words) -> Result<(), NoMemory
 }
 
 /// The value of a kind that the words begin with. It has so many bytes.
-#[tactic(auto, unfolding(crate::specs::Values::value_at))]
+#[tactic(auto, unfolding(crate::specs::Reading::value_at))]
 pub(crate) fn read_value(
     alloc: Global,
     kind: Kind,

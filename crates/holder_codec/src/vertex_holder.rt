@@ -1,7 +1,7 @@
 ghost use Rattle.std.specs.Prelude.{◌≡◌, ◌≢◌, IfOk, MatchOption};
 ghost use Rattle.holder_codec.specs.declared.vertex_holder.VertexHolder.{VertexHolder};
-ghost use Rattle.holder_codec.specs.Reading.{IsWords, Gives};
-ghost use Rattle.holder_codec.specs.Vertex.{IsVertexHolder, vertex_words, vertex_of_words};
+ghost use Rattle.holder_codec.specs.Reading.{IsWords, Gives, vertex_of_words};
+ghost use Rattle.holder_codec.specs.Vertex.{IsVertexHolder, vertex_words};
 
 use crate::edge_record::EdgeRecords;
 use crate::held_prop::HeldProps;
@@ -58,7 +58,7 @@ impl VertexHolder {
     }
 }
 
-#[tactic(auto, unfolding(crate::specs::Vertex::vertex_of_words))]
+#[tactic(auto, unfolding(crate::specs::Reading::vertex_of_words))]
 fn all(alloc: Global, words: &[u64]) -> Result<VertexHolder, Unread>
     ensures gives { Gives (λ vertex. vertex) result (vertex_of_words words.now) }
     ensures words { IsWords words.now }

@@ -1,7 +1,6 @@
 ghost use Rattle.std.specs.Prelude.{◌≡◌, Option};
 ghost use Rattle.object_words.specs.Chains.{place_of};
-ghost use Rattle.holder_codec.specs.Reading.{Gives, number_at, place_at};
-ghost use Rattle.holder_codec.specs.Values.{bool_at, narrow};
+ghost use Rattle.holder_codec.specs.Reading.{Gives, number_at, place_at, bool_at, narrow};
 
 use crate::unread::Unread;
 use rma_layout::DPtr;
@@ -35,7 +34,7 @@ pub(crate) fn pointer_of(word: u64) -> DPtr
 }
 
 /// Whether the first word is 1. It is 0 or 1. The words after it are left.
-#[tactic(auto, unfolding(crate::specs::Values::bool_at))]
+#[tactic(auto, unfolding(crate::specs::Reading::bool_at))]
 pub(crate) fn read_bool(words: &mut &[u64]) -> Result<bool, Unread>
     ensures { Gives (λ bool. (bool, words.new.now)) result (bool_at words.old.now) }
 {

@@ -1,5 +1,5 @@
 use Rattle.std.proofs.Common.{◌≡◌, take}
-use Rattle.holder_codec.specs.Texts.{bytes_of}
+use Rattle.holder_codec.specs.Reading.{bytes_of}
 use Rattle.holder_codec.proofs.texts.bytes_of.Given as goal
 
 abbrev pub invariant-loop-word : goal.invariant-loop-word
