@@ -1,22 +1,24 @@
 -- Plain scripts: transactions of `vertex` and `has` that end, with few vertices, fit the standard geometry and answer words.
-use Rattle.std.proofs.Common.{◌≡◌, ℕ, suc, ◌+◌, ◌<◌, ◌≤◌, Bool, true, false, List, [], ◌∷◌, ◌++◌, length, get_or, drop, sum_by, refl, sym, ap, subst, ◌∙◌, arith}
+use Rattle.std.proofs.Common.{◌≡◌, ℕ, suc, ◌+◌, ◌<◌, ◌≤◌, Bool, true, false, List, [], ◌∷◌, ◌++◌, length, if◌then◌else◌, get_or, drop, sum_by, refl, sym, ap, subst, ◌∙◌, arith}
 use Rattle.std.specs.List.{AllByRecursion, list_any}
 use Rattle.std.proofs.lemmas.List.{append-nil, drop_all, length-append}
 use Rattle.std.proofs.lemmas.List.Sums.{sum_by-cons, get_or-le-sum_by}
 use Rattle.gdi_kinds.specs.declared.call.Call.{Call}
-use Rattle.gdi_kinds.specs.declared.call.Call.TheVariants.{Vertex, Has}
+use Rattle.gdi_kinds.specs.declared.call.Call.TheVariants.{Vertex, Has, DropVertex}
 use Rattle.gdi_kinds.specs.declared.reply.Reply.{Reply}
 use Rattle.gdi_kinds.specs.declared.reply.Reply.TheVariants as reply
 use Rattle.gdi_kinds.specs.declared.txn.Txn.{Txn}
 use Rattle.gdi_kinds.specs.declared.outcome.Line.{Line}
 use Rattle.rma_layout.specs.Shape.{Shape, default_shape}
+use Rattle.graph_model.specs.Maps.{has}
 use Rattle.graph_model.specs.Graph.{Graph, empty_graph}
-use Rattle.graph_model.specs.Bare.{IsBareCall, IsBareReply, bare_graph}
+use Rattle.graph_model.specs.Bare.{IsBareCall, bare_graph}
 use Rattle.graph_model.specs.Calls.{is_writing_call}
 use Rattle.graph_model.specs.Transactions.{is_writing, graph_after_txn, replies_to}
 use Rattle.graph_model.specs.Placed.{Placed, placed_from, sections_from, transactions_of}
 use Rattle.graph_model.specs.LegalRun.{IsLegalRun}
-use Rattle.graph_model.proofs.Bare.{ids_after_calls, graph_after_calls-bare, IsBareReply-calls, length-after_calls}
+use Rattle.graph_model.proofs.VertexSteps.{is_bucket_full}
+use Rattle.graph_model.proofs.Bare.{ids_after_calls, reply_by_ids, graph_after_calls-bare, replies_to_calls-bare, length-after_calls}
 use Rattle.graph_model.proofs.Room.{full_rank-default}
 use Rattle.gdi_run.specs.ScriptText.{IsPlainTxn, IsPlainScript, MayHold, vertex_calls}
 use Rattle.gdi_run.specs.OutputText.{IsWord, HasWords}
@@ -32,22 +34,21 @@ pub are_bare : (cs : List Call) → AllByRecursion MayHold cs → AllByRecursion
 are_bare [] h = tt
 are_bare (c ∷ cs) h = (is_bare c h.0, are_bare cs h.1)
 
-is_word : (r : Reply) → IsBareReply r → IsWord r
-is_word reply.Done h = tt
-is_word reply.Yes h = tt
-is_word reply.No h = tt
-is_word reply.Exists h = tt
-is_word reply.TooLarge h = tt
-is_word r h = absurd h
-
-are_words : (rs : List Reply) → AllByRecursion IsBareReply rs → AllByRecursion IsWord rs
-are_words [] h = tt
-are_words (r ∷ rs) h = (is_word r h.0, are_words rs h.1)
+-- what they answer is one word
+is_word : (ids : List ℕ) (c : Call) → MayHold c → IsWord (reply_by_ids default_shape ids c)
+is_word ids (Vertex id) h =
+    elim (has ids id) as (λ there. IsWord (if there then reply.Exists else (if is_bucket_full default_shape (bare_graph ids).vertices id then reply.TooLarge else reply.Done))) [
+      | true ↦ tt
+      | false ↦ elim (is_bucket_full default_shape (bare_graph ids).vertices id) as (λ full. IsWord (if full then reply.TooLarge else reply.Done)) [ true ↦ tt | false ↦ tt ]
+    ]
+is_word ids (Has id) h = elim (has ids id) as (λ there. IsWord (if there then reply.Yes else reply.No)) [ true ↦ tt | false ↦ tt ]
+is_word ids c h = absurd h
 
 -- calls that don't write are `has`, and leave the vertices
 reading_leaves : (shape : Shape) (ids : List ℕ) (cs : List Call) → AllByRecursion IsBareCall cs → list_any is_writing_call cs ≡ false → ids_after_calls shape ids cs ≡ ids
 reading_leaves shape ids [] bare reads = refl
 reading_leaves shape ids (Vertex id ∷ cs) bare reads = absurd cc
+reading_leaves shape ids (DropVertex id ∷ cs) bare reads = absurd cc
 reading_leaves shape ids (Has id ∷ cs) bare reads = reading_leaves shape ids cs bare.1 reads
 reading_leaves shape ids (c ∷ cs) bare reads = absurd bare.0
 
@@ -76,7 +77,7 @@ plain_run ids k (p ∷ ps) plain few =
     record {
       fits = ((full_rank-default ids p.txn bare (omega arith), stays), subst (λ g. Fits default_shape g ps) (sym after) rest.fits);
       words = (
-        ends_in_words p.txn.aborts (is_writing p.txn) k p.section p.number (replies_to default_shape (bare_graph ids) p.txn) (are_words _ (IsBareReply-calls default_shape ids p.txn.calls bare)),
+        ends_in_words p.txn.aborts (is_writing p.txn) k p.section p.number (replies_to default_shape (bare_graph ids) p.txn) (replies_to_calls-bare default_shape MayHold IsWord is_bare is_word ids p.txn.calls plain.0.calls),
         subst (λ g. AllByRecursion HasWords (serial_lines default_shape g (next_entries k p.txn) ps)) (sym after) rest.words,
       );
     }

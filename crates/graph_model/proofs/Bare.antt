@@ -1,10 +1,9 @@
 -- What the bare calls do to bare graphs: a set of identifiers says all there is of one.
-use Rattle.std.proofs.Common.{◌≡◌, ℕ, ◌+◌, ◌*◌, ◌<◌, ◌≤◌, Bool, true, false, cond, ◌||◌, List, [], ◌∷◌, length, if◌then◌else◌, Some, refl, ap, sym, subst, ◌∙◌, is_some, eqb, leb, arith}
+use Rattle.std.proofs.Common.{◌≡◌, ℕ, ◌+◌, ◌*◌, ◌≤◌, Bool, true, false, cond, not, ◌||◌, List, [], ◌∷◌, length, if◌then◌else◌, Some, refl, ap, sym, subst, ◌∙◌, is_some, eqb, arith}
 use Rattle.std.specs.List.{AllByRecursion, count_by}
 use Rattle.std.specs.Ordering.{nat_cmp}
 use Rattle.std.specs.declared.cmp.Ordering.TheVariants.{Less, Equal, Greater}
-use Rattle.std.specs.FinMap.Entries.{find, put, by_order}
-use Rattle.std.proofs.lemmas.Bool.Decides.{nat_tests}
+use Rattle.std.specs.FinMap.Entries.{find, by_order}
 use Rattle.std.proofs.lemmas.List.Sums.{sum_by-cons}
 use Rattle.gdi_kinds.specs.declared.call.Call.{Call}
 use Rattle.gdi_kinds.specs.declared.call.Call.TheVariants as call
@@ -12,15 +11,19 @@ use Rattle.gdi_kinds.specs.declared.reply.Reply.{Reply}
 use Rattle.gdi_kinds.specs.declared.reply.Reply.TheVariants as reply
 use Rattle.rma_layout.specs.Shape.{Shape}
 use Rattle.rma_layout.specs.Placement.{Place, same_place, bucket_of}
-use Rattle.graph_model.specs.Maps.{IsSet, has, add}
+use Rattle.graph_model.specs.Maps.{Map, has, add, take_out, with_at, without}
 use Rattle.graph_model.specs.Graph.{Vertex, new_vertex, is_vertex}
-use Rattle.graph_model.specs.Sizes.{words_of_bucket, is_too_large}
-use Rattle.graph_model.specs.VertexCalls.{with_vertex}
+use Rattle.graph_model.specs.Sizes.{words_of_bucket}
 use Rattle.graph_model.specs.Steps.{Answer}
 use Rattle.graph_model.specs.Calls.{answer_to, graph_after_call, reply_to}
 use Rattle.graph_model.specs.Transactions.{graph_after_calls, replies_to_calls}
-use Rattle.graph_model.specs.Bare.{bare_graph, IsBareCall, is_vertex_call, IsBareReply}
-use Rattle.graph_model.proofs.Sets.{is_eq-nat_cmp, IsSet-add, length-add-le, count_by-add}
+use Rattle.graph_model.specs.Bare.{graph_of_vertices, bare_graph, IsBareCall, is_vertex_call}
+use Rattle.graph_model.proofs.Sets.{is_eq-nat_cmp, length-add-le, length-filter-le}
+use Rattle.graph_model.proofs.VertexSteps.{is_bucket_full, answer_to-vertex, answer_to-has, answer_to-drop}
+
+-- the vertices of a bare graph
+abbrev vertices_of : List ℕ → Map ℕ Vertex
+vertices_of ids = (bare_graph ids).vertices
 
 pub is_vertex-bare : (ids : List ℕ) (id : ℕ) → is_vertex (bare_graph ids) id ≡ has ids id
 is_vertex-bare [] id = refl
@@ -31,19 +34,23 @@ is_vertex-bare (x ∷ xs) id =
       | false ↦ is_vertex-bare xs id
     ]
 
-put-bare : (id : ℕ) (ids : List ℕ) → put nat_cmp id new_vertex (bare_graph ids).vertices ≡ (bare_graph (add id ids)).vertices
-put-bare id [] = refl
-put-bare id (x ∷ xs) =
-    let entries = λ (ns : List ℕ). (bare_graph ns).vertices in
-    elim (nat_cmp id x) as (λ order. by_order order ((id, new_vertex) ∷ entries (x ∷ xs)) (entries (x ∷ xs)) ((x, new_vertex) ∷ put nat_cmp id new_vertex (entries xs)) ≡ entries (by_order order (id ∷ x ∷ xs) (x ∷ xs) (x ∷ add id xs))) [
+-- a vertex that is there already is new too, so this holds of it as well
+with_at-bare : (id : ℕ) (ids : List ℕ) → with_at (vertices_of ids) id new_vertex ≡ vertices_of (add id ids)
+with_at-bare id [] = refl
+with_at-bare id (x ∷ xs) =
+    elim (nat_cmp id x) as (λ order. by_order order (vertices_of (id ∷ x ∷ xs)) (vertices_of (x ∷ xs)) ((x, new_vertex) ∷ with_at (vertices_of xs) id new_vertex) ≡ vertices_of (by_order order (id ∷ x ∷ xs) (x ∷ xs) (x ∷ add id xs))) [
       | Less ↦ refl
       | Equal ↦ refl
-      | Greater ↦ ap (λ later. (x, new_vertex) ∷ later) (put-bare id xs)
+      | Greater ↦ ap (λ later. (x, new_vertex) ∷ later) (with_at-bare id xs)
     ]
 
--- a vertex that is there already is new too, so this holds of it as well
-pub with_vertex-bare : (ids : List ℕ) (id : ℕ) → with_vertex (bare_graph ids) id new_vertex ≡ bare_graph (add id ids)
-with_vertex-bare ids id = ap (λ entries. record (bare_graph ids) { vertices = entries }) (put-bare id ids)
+without-bare : (id : ℕ) (ids : List ℕ) → without (vertices_of ids) id ≡ vertices_of (take_out id ids)
+without-bare id [] = refl
+without-bare id (x ∷ xs) =
+    elim (not (eqb x id)) as (λ stays. cond stays ((x, new_vertex) ∷ without (vertices_of xs) id) (without (vertices_of xs) id) ≡ vertices_of (cond stays (x ∷ take_out id xs) (take_out id xs))) [
+      | true ↦ ap (λ later. (x, new_vertex) ∷ later) (without-bare id xs)
+      | false ↦ without-bare id xs
+    ]
 
 -- whether this identifier has the bucket at a place
 abbrev pub is_in_bucket : Shape → Place → ℕ → Bool
@@ -59,77 +66,29 @@ count_by-bare p (x ∷ xs) =
 pub words_of_bucket-bare : (shape : Shape) (ids : List ℕ) (place : Place) → words_of_bucket shape (bare_graph ids) place ≡ 2 * count_by (is_in_bucket shape place) ids
 words_of_bucket-bare shape ids place = ap (λ n. 2 * n) (count_by-bare (is_in_bucket shape place) ids)
 
--- whether the bucket of an identifier would be too large with it
-abbrev pub is_bucket_full : Shape → List ℕ → ℕ → Bool
-is_bucket_full shape ids id = is_too_large (2 * count_by (is_in_bucket shape (bucket_of shape id)) (add id ids))
-
 -- the set after a call, and its reply
 abbrev pub ids_after_call : Shape → List ℕ → Call → List ℕ
-ids_after_call shape ids (call.Vertex id) = if has ids id || is_bucket_full shape ids id then ids else add id ids
+ids_after_call shape ids (call.Vertex id) = if has ids id || is_bucket_full shape (vertices_of ids) id then ids else add id ids
+ids_after_call shape ids (call.DropVertex id) = take_out id ids
 ids_after_call shape ids other = ids
 
 abbrev pub reply_by_ids : Shape → List ℕ → Call → Reply
-reply_by_ids shape ids (call.Vertex id) = if has ids id then reply.Exists else (if is_bucket_full shape ids id then reply.TooLarge else reply.Done)
+reply_by_ids shape ids (call.Vertex id) = if has ids id then reply.Exists else (if is_bucket_full shape (vertices_of ids) id then reply.TooLarge else reply.Done)
 reply_by_ids shape ids (call.Has id) = if has ids id then reply.Yes else reply.No
+reply_by_ids shape ids (call.DropVertex id) = if has ids id then reply.Done else reply.NoVertex id
 reply_by_ids shape ids other = reply.No
 
-pub is_bucket_full-bare : (shape : Shape) (ids : List ℕ) (id : ℕ) → is_too_large (words_of_bucket shape (with_vertex (bare_graph ids) id new_vertex) (bucket_of shape id)) ≡ is_bucket_full shape ids id
-is_bucket_full-bare shape ids id =
-    ap (λ g. is_too_large (words_of_bucket shape g (bucket_of shape id))) (with_vertex-bare ids id)
-    ∙ ap is_too_large (words_of_bucket-bare shape (add id ids) (bucket_of shape id))
-
-same_place-itself : (place : Place) → same_place place place ≡ true
-same_place-itself place = grind (arith, nat_tests)
-
-one_more : (n : ℕ) → is_too_large (2 * (n + 1)) ≡ leb 524288 n
-one_more n = grind (arith, nat_tests)
-
-pub few_in_bucket : (n all : ℕ) → n ≤ all → all < 524288 → leb 524288 all ≡ leb 524288 n
-few_in_bucket n all le few = grind (arith, nat_tests)
-
--- so it is full where it leads to half as many vertices as an object may have words
-pub is_bucket_full-counted : (shape : Shape) (ids : List ℕ) (id : ℕ) → has ids id ≡ false
-    → is_too_large (words_of_bucket shape (with_vertex (bare_graph ids) id new_vertex) (bucket_of shape id)) ≡ leb 524288 (count_by (is_in_bucket shape (bucket_of shape id)) ids)
-is_bucket_full-counted shape ids id absent =
-    let test = is_in_bucket shape (bucket_of shape id) in
-    is_bucket_full-bare shape ids id
-    ∙ ap (λ n. is_too_large (2 * n)) (count_by-add test id ids absent ∙ ap (λ same. count_by test ids + cond same 1 0) (same_place-itself (bucket_of shape id)))
-    ∙ one_more (count_by test ids)
-
-answer_to-vertex : (shape : Shape) (ids : List ℕ) (id : ℕ) (there full : Bool) → is_vertex (bare_graph ids) id ≡ there
-    → is_too_large (words_of_bucket shape (with_vertex (bare_graph ids) id new_vertex) (bucket_of shape id)) ≡ full
-    → answer_to shape (bare_graph ids) (call.Vertex id) ≡ (record {
-      graph = bare_graph (if there || full then ids else add id ids);
-      reply = if there then reply.Exists else (if full then reply.TooLarge else reply.Done);
-    })
-answer_to-vertex shape ids id true full e f = rw e
-answer_to-vertex shape ids id false true e f = rw (e, f)
-answer_to-vertex shape ids id false false e f = rw (e, f) (ap (λ g. record { graph = g; reply = reply.Done }) (with_vertex-bare ids id))
-
--- the three answers to a call for a vertex
-module _ (shape : Shape) (ids : List ℕ) (id : ℕ) where
-  pub vertex-exists : has ids id ≡ true → answer_to shape (bare_graph ids) (call.Vertex id) ≡ (record { graph = bare_graph ids; reply = reply.Exists })
-  vertex-exists there = answer_to-vertex shape ids id true _ (is_vertex-bare ids id ∙ there) refl
-
-  pub vertex-too_large : has ids id ≡ false → is_too_large (words_of_bucket shape (with_vertex (bare_graph ids) id new_vertex) (bucket_of shape id)) ≡ true → answer_to shape (bare_graph ids) (call.Vertex id) ≡ (record { graph = bare_graph ids; reply = reply.TooLarge })
-  vertex-too_large absent full = answer_to-vertex shape ids id false true (is_vertex-bare ids id ∙ absent) full
-
-  pub vertex-done : has ids id ≡ false → is_too_large (words_of_bucket shape (with_vertex (bare_graph ids) id new_vertex) (bucket_of shape id)) ≡ false → answer_to shape (bare_graph ids) (call.Vertex id) ≡ (record { graph = bare_graph (add id ids); reply = reply.Done })
-  vertex-done absent room = answer_to-vertex shape ids id false false (is_vertex-bare ids id ∙ absent) room
-
-answer_to-has : (shape : Shape) (ids : List ℕ) (id : ℕ) → answer_to shape (bare_graph ids) (call.Has id) ≡ (record { graph = bare_graph ids; reply = reply_by_ids shape ids (call.Has id) })
-answer_to-has shape ids id = ap (λ there. record { graph = bare_graph ids; reply = if there then reply.Yes else reply.No }) (is_vertex-bare ids id)
-
-pub has-yes : (shape : Shape) (ids : List ℕ) (id : ℕ) → has ids id ≡ true → reply_to shape (bare_graph ids) (call.Has id) ≡ reply.Yes
-has-yes shape ids id there = rw (is_vertex-bare ids id ∙ there)
-
-pub has-no : (shape : Shape) (ids : List ℕ) (id : ℕ) → has ids id ≡ false → reply_to shape (bare_graph ids) (call.Has id) ≡ reply.No
-has-no shape ids id absent = rw (is_vertex-bare ids id ∙ absent)
+leaving : (reply : Reply) (vertices : Map ℕ Vertex) (ids : List ℕ) → vertices ≡ vertices_of ids → ◌≡◌ {A = Answer} (record { graph = graph_of_vertices vertices; reply = reply }) (record { graph = bare_graph ids; reply = reply })
+leaving reply vertices ids is = ap (λ entries. record { graph = graph_of_vertices entries; reply = reply }) is
 
 -- a bare call leaves a bare graph, and looks at the set alone
 pub answer_to-bare : (shape : Shape) (ids : List ℕ) (c : Call) → IsBareCall c → answer_to shape (bare_graph ids) c ≡ (record { graph = bare_graph (ids_after_call shape ids c); reply = reply_by_ids shape ids c })
-answer_to-bare shape ids (call.Vertex id) bare = answer_to-vertex shape ids id (has ids id) (is_bucket_full shape ids id) (is_vertex-bare ids id) (is_bucket_full-bare shape ids id)
-answer_to-bare shape ids (call.Has id) bare = answer_to-has shape ids id
+answer_to-bare shape ids (call.Vertex id) bare =
+    let after = elim (has ids id || is_bucket_full shape (vertices_of ids) id) as (λ refused. (if refused then vertices_of ids else with_at (vertices_of ids) id new_vertex) ≡ vertices_of (if refused then ids else add id ids)) [ true ↦ refl | false ↦ with_at-bare id ids ] in
+    answer_to-vertex shape (vertices_of ids) id (has ids id) _ (is_vertex-bare ids id) refl ∙ leaving _ _ (ids_after_call shape ids (call.Vertex id)) after
+answer_to-bare shape ids (call.Has id) bare = answer_to-has shape (vertices_of ids) id (has ids id) (is_vertex-bare ids id)
+answer_to-bare shape ids (call.DropVertex id) bare =
+    answer_to-drop shape (vertices_of ids) id (has ids id) (is_vertex-bare ids id) ∙ leaving _ _ (take_out id ids) (without-bare id ids)
 answer_to-bare shape ids other bare = absurd bare
 
 pub graph_after_call-bare : (shape : Shape) (ids : List ℕ) (c : Call) → IsBareCall c → graph_after_call shape (bare_graph ids) c ≡ bare_graph (ids_after_call shape ids c)
@@ -138,25 +97,10 @@ graph_after_call-bare shape ids c bare = ap (λ (answer : Answer). answer.graph)
 pub reply_to-bare : (shape : Shape) (ids : List ℕ) (c : Call) → IsBareCall c → reply_to shape (bare_graph ids) c ≡ reply_by_ids shape ids c
 reply_to-bare shape ids c bare = ap (λ (answer : Answer). answer.reply) (answer_to-bare shape ids c bare)
 
-pub IsSet-after_call : (shape : Shape) (ids : List ℕ) (c : Call) → IsSet ids → IsSet (ids_after_call shape ids c)
-IsSet-after_call shape ids (call.Vertex id) set = elim (has ids id || is_bucket_full shape ids id) as (λ b. IsSet (if b then ids else add id ids)) [ true ↦ set | false ↦ IsSet-add id ids set ]
-IsSet-after_call shape ids other set = set
-
 pub length-after_call : (shape : Shape) (ids : List ℕ) (c : Call) → length (ids_after_call shape ids c) ≤ length ids + cond (is_vertex_call c) 1 0
-length-after_call shape ids (call.Vertex id) = elim (has ids id || is_bucket_full shape ids id) as (λ b. length (if b then ids else add id ids) ≤ length ids + 1) [ true ↦ omega arith | false ↦ length-add-le id ids ]
+length-after_call shape ids (call.Vertex id) = elim (has ids id || is_bucket_full shape (vertices_of ids) id) as (λ b. length (if b then ids else add id ids) ≤ length ids + 1) [ true ↦ omega arith | false ↦ length-add-le id ids ]
+length-after_call shape ids (call.DropVertex id) = omega (arith, length-filter-le (λ m. not (eqb m id)) ids)
 length-after_call shape ids other = omega arith
-
-pub IsBareReply-by_ids : (shape : Shape) (ids : List ℕ) (c : Call) → IsBareReply (reply_by_ids shape ids c)
-IsBareReply-by_ids shape ids (call.Vertex id) =
-    elim (has ids id) as (λ there. IsBareReply (if there then reply.Exists else (if is_bucket_full shape ids id then reply.TooLarge else reply.Done))) [
-      | true ↦ tt
-      | false ↦ elim (is_bucket_full shape ids id) as (λ full. IsBareReply (if full then reply.TooLarge else reply.Done)) [ true ↦ tt | false ↦ tt ]
-    ]
-IsBareReply-by_ids shape ids (call.Has id) = elim (has ids id) as (λ there. IsBareReply (if there then reply.Yes else reply.No)) [ true ↦ tt | false ↦ tt ]
-IsBareReply-by_ids shape ids other = tt
-
-pub IsBareReply-bare : (shape : Shape) (ids : List ℕ) (c : Call) → IsBareCall c → IsBareReply (reply_to shape (bare_graph ids) c)
-IsBareReply-bare shape ids c bare = subst IsBareReply (sym (reply_to-bare shape ids c bare)) (IsBareReply-by_ids shape ids c)
 
 -- the set after calls
 abbrev pub ids_after_calls : Shape → List ℕ → List Call → List ℕ
@@ -168,15 +112,14 @@ graph_after_calls-bare shape ids [] bare = refl
 graph_after_calls-bare shape ids (c ∷ cs) bare =
     ap (λ g. graph_after_calls shape g cs) (graph_after_call-bare shape ids c bare.0) ∙ graph_after_calls-bare shape (ids_after_call shape ids c) cs bare.1
 
-pub IsBareReply-calls : (shape : Shape) (ids : List ℕ) (cs : List Call) → AllByRecursion IsBareCall cs → AllByRecursion IsBareReply (replies_to_calls shape (bare_graph ids) cs)
-IsBareReply-calls shape ids [] bare = tt
-IsBareReply-calls shape ids (c ∷ cs) bare =
-    let after = graph_after_call-bare shape ids c bare.0 in
-    (IsBareReply-bare shape ids c bare.0, subst (λ g. AllByRecursion IsBareReply (replies_to_calls shape g cs)) (sym after) (IsBareReply-calls shape (ids_after_call shape ids c) cs bare.1))
-
-pub IsSet-after_calls : (shape : Shape) (ids : List ℕ) (cs : List Call) → IsSet ids → IsSet (ids_after_calls shape ids cs)
-IsSet-after_calls shape ids [] set = set
-IsSet-after_calls shape ids (c ∷ cs) set = IsSet-after_calls shape (ids_after_call shape ids c) cs (IsSet-after_call shape ids c set)
+-- what holds of the reply to each call that may come holds of the replies to all
+pub replies_to_calls-bare : (shape : Shape) (MayCome : Call → Type 0) (P : Reply → Type 0) → ((c : Call) → MayCome c → IsBareCall c) → ((ids : List ℕ) (c : Call) → MayCome c → P (reply_by_ids shape ids c))
+    → (ids : List ℕ) (cs : List Call) → AllByRecursion MayCome cs → AllByRecursion P (replies_to_calls shape (bare_graph ids) cs)
+replies_to_calls-bare shape MayCome P bare each ids [] may = tt
+replies_to_calls-bare shape MayCome P bare each ids (c ∷ cs) may =
+    let after = graph_after_call-bare shape ids c (bare c may.0) in
+    let here = subst P (sym (reply_to-bare shape ids c (bare c may.0))) (each ids c may.0) in
+    (here, subst (λ g. AllByRecursion P (replies_to_calls shape g cs)) (sym after) (replies_to_calls-bare shape MayCome P bare each (ids_after_call shape ids c) cs may.1))
 
 pub length-after_calls : (shape : Shape) (ids : List ℕ) (cs : List Call) → length (ids_after_calls shape ids cs) ≤ length ids + count_by is_vertex_call cs
 length-after_calls shape ids [] = omega arith

@@ -1,4 +1,7 @@
 pub mod Sets
+pub mod OrderedMaps
+pub mod VertexSteps
+pub mod BucketCounts
 pub mod Bare
 pub mod Room
 pub mod Steps

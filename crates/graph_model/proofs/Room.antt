@@ -6,7 +6,7 @@ use Rattle.std.specs.Option.{option_map_or, option_to_list, option_or}
 use Rattle.std.specs.Ordering.{nat_cmp, eq_by_cmp}
 use Rattle.std.proofs.lemmas.Bool.{le-ltb}
 use Rattle.std.proofs.lemmas.List.{length-append}
-use Rattle.std.proofs.lemmas.List.Sums.{sum_by-cons, sum_by-append, sum_by-le, length-filter, count_by-le-length}
+use Rattle.std.proofs.lemmas.List.Sums.{sum_by-cons, sum_by-append, sum_by-le, count_by-le-length}
 use Rattle.std.proofs.lemmas.List.FromFn.{length-range_with_len}
 use Rattle.gdi_kinds.specs.declared.call.Call.{Call}
 use Rattle.gdi_kinds.specs.declared.call.Call.TheVariants as call
@@ -21,6 +21,7 @@ use Rattle.graph_model.specs.Transactions.{is_writing}
 use Rattle.graph_model.specs.Capacity.{Object, is_object, words_of_reserved, blocks_of_object, objects_on, used_blocks, growth_of, graphs_along, make_of, makes, needed_blocks, short_at_make, short_at_commit, full_rank}
 use Rattle.graph_model.specs.Capacity.Object.{Reserved, OfVertex}
 use Rattle.graph_model.specs.Bare.{bare_graph, IsBareCall, is_vertex_call}
+use Rattle.graph_model.proofs.Sets.{length-filter-le}
 use Rattle.graph_model.proofs.Bare.{ids_after_call, ids_after_calls, graph_after_call-bare, graph_after_calls-bare, length-after_calls, words_of_bucket-bare, is_in_bucket}
 
 sum_by-bounded : {X : Type 0} (f : X → ℕ) (m : ℕ) (xs : List X) → ((x : X) → f x ≤ m) → sum_by f xs ≤ length xs * m
@@ -29,9 +30,6 @@ sum_by-bounded f m xs each = sum_by-le f m xs (λ k d within. each (get_or xs k 
 sum_by-map : {X Y : Type 0} (f : Y → ℕ) (g : X → Y) (xs : List X) → sum_by f (map g xs) ≡ sum_by (λ x. f (g x)) xs
 sum_by-map f g [] = refl
 sum_by-map f g (x ∷ xs) = sum_by-cons f (g x) (map g xs) ∙ ap (λ n. f (g x) + n) (sum_by-map f g xs) ∙ sym (sum_by-cons (λ z. f (g z)) x xs)
-
-length-filter-le : {X : Type 0} (p : X → Bool) (xs : List X) → length (filter p xs) ≤ length xs
-length-filter-le p xs = omega (arith, length-filter p xs, count_by-le-length p xs)
 
 find-none : {X : Type 0} (p : X → Bool) (xs : List X) → ((x : X) → p x ≡ false) → prelude.find p xs ≡ None
 find-none p [] none = refl
@@ -102,6 +100,7 @@ length-option_to_list (Some x) = omega arith
 length-make_of : (shape : Shape) (g : Graph) (c : Call) → IsBareCall c → length (option_to_list (make_of shape g c)) ≤ cond (is_vertex_call c) 1 0
 length-make_of shape g (call.Vertex id) bare = length-option_to_list (make_of shape g (call.Vertex id))
 length-make_of shape g (call.Has id) bare = omega arith
+length-make_of shape g (call.DropVertex id) bare = omega arith
 length-make_of shape g other bare = absurd bare
 
 length-makes : (shape : Shape) (ids : List ℕ) (cs : List Call) → AllByRecursion IsBareCall cs → length (makes shape (bare_graph ids) cs) ≤ count_by is_vertex_call cs

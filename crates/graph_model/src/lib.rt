@@ -2,7 +2,9 @@
 #![tactic(auto)]
 
 pub mod examples;
+mod held_vertex;
 pub mod laws;
+mod map_copy;
 mod plain_graph;
 mod refused;
 #[cfg(test)]

@@ -1,22 +1,24 @@
-ghost use Rattle.std.specs.Prelude.{◌≡◌, ◌≤◌, false, true, IfOk, OnOk, MatchResult, count_by, length};
-ghost use Rattle.std.specs.List.{AllByRecursion, insert};
-ghost use Rattle.rma_layout.specs.Placement.{bucket_of, same_place};
-ghost use Rattle.graph_model.specs.Maps.{IsSet, add, has};
-ghost use Rattle.graph_model.specs.Graph.{empty_graph, is_vertex, new_vertex};
-ghost use Rattle.graph_model.specs.Sizes.{is_too_large, words_of_bucket};
-ghost use Rattle.graph_model.specs.VertexCalls.{with_vertex};
-ghost use Rattle.graph_model.specs.Bare.{IsBareCall, bare_graph};
+ghost use Rattle.std.specs.Prelude.{◌≡◌, IfOk, OnOk};
+ghost use Rattle.std.specs.List.{AllByRecursion};
+ghost use Rattle.gdi_kinds.specs.declared.call.Call.TheVariants as call;
+ghost use Rattle.rma_layout.specs.Placement.{bucket_of, raw_of};
+ghost use Rattle.graph_model.specs.Graph.{empty_graph};
+ghost use Rattle.graph_model.specs.Bare.{IsBareCall};
+ghost use Rattle.graph_model.specs.Plain.{count_of};
 ghost use Rattle.graph_model.specs.Calls.{graph_after_call, reply_to};
 ghost use Rattle.graph_model.specs.Transactions.{graph_after_calls, graph_after_txn, replies_to, replies_to_calls};
 
 use crate::ModelRefused;
+use crate::held_vertex::HeldVertex;
+use crate::map_copy::copy_of_map;
 use gdi_kinds::{Call, NoMemory, Reply, ReplyList, Txn};
-use rma_layout::{DPtr, Geometry};
+use rma_layout::Geometry;
 use std::alloc::Global;
+use std::collections::BTreeMap;
 use std::marker::Model;
 
 // A bucket that leads to so many vertices has as many words as an object may have.
-const MOST_IN_BUCKET: usize = 524_288;
+const MOST_IN_BUCKET: u64 = 524_288;
 
 /// A graph in memory, worked on by one caller alone. Its geometry decides which calls would make an object too large.
 ///
@@ -24,7 +26,10 @@ const MOST_IN_BUCKET: usize = 524_288;
 #[derive(Debug, Drop)]
 pub struct PlainGraph {
     geometry: Geometry,
-    ids: Vec<u64>,
+    // By identifier.
+    vertices: BTreeMap<u64, HeldVertex, Global>,
+    // How many vertices each bucket leads to, by the bucket's pointer. One that is absent leads to none.
+    bucket_counts: BTreeMap<u64, u64, Global>,
 }
 
 impl Model for PlainGraph {
@@ -32,12 +37,12 @@ impl Model for PlainGraph {
 
     ghost Value = { Plain };
 
-    ghost use Rattle.graph_model.specs.Bare.{bare_graph};
-    ghost use Rattle.graph_model.specs.Maps.{IsSet};
+    ghost use Rattle.graph_model.specs.Bare.{graph_of_vertices};
+    ghost use Rattle.graph_model.specs.Plain.{CountsBuckets};
 
-    ghost view = { λ plain. record { shape = plain.geometry; graph = bare_graph plain.ids.items } };
+    ghost view = { λ plain. record { shape = plain.geometry; graph = graph_of_vertices plain.vertices.entries } };
 
-    ghost invariant = { λ plain. IsSet plain.ids.items };
+    ghost invariant = { λ plain. CountsBuckets plain.geometry plain.vertices.entries plain.bucket_counts.entries };
 }
 
 impl PlainGraph {
@@ -48,20 +53,22 @@ impl PlainGraph {
     {
         PlainGraph {
             geometry,
-            ids: Vec::new(alloc),
+            vertices: BTreeMap::new(alloc),
+            bucket_counts: BTreeMap::new(alloc),
         }
     }
 
-    /// Does a call and answers its reply. So far it takes `Vertex` and `Has` alone.
-    pub fn apply(&mut self, _alloc: Global, call: &Call) -> Result<Reply, ModelRefused>
+    /// Does a call and answers its reply. So far it takes `Vertex`, `Has` and `DropVertex` alone.
+    pub fn apply(&mut self, alloc: Global, call: &Call) -> Result<Reply, ModelRefused>
         requires { IsBareCall call.now }
         ensures shape { self.new.shape ≡ self.old.shape }
         ensures reply { IfOk result (λ reply. reply ≡ reply_to self.old.shape self.old.graph call.now) }
         ensures graph { OnOk result (self.new.graph ≡ graph_after_call self.old.shape self.old.graph call.now) }
     {
         match call {
-            Call::Vertex { id } => self.make_vertex(*id),
+            Call::Vertex { id } => self.make_vertex(alloc, *id),
             Call::Has { id } => Ok(self.has_vertex(*id)),
+            Call::DropVertex { id } => Ok(self.drop_vertex(*id)),
             _ => unreachable!(),
         }
     }
@@ -99,57 +106,69 @@ impl PlainGraph {
     {
         Ok(PlainGraph {
             geometry: self.geometry,
-            ids: self.ids.as_slice().to_vec(alloc)?,
+            vertices: copy_of_map(alloc, &self.vertices)?,
+            bucket_counts: copy_of_map(alloc, &self.bucket_counts)?,
         })
     }
 
     fn has_vertex(&self, id: u64) -> Reply
-        ensures { result ≡ reply_to self.now.shape self.now.graph (Call.Has id) }
+        ensures { result ≡ reply_to self.now.shape self.now.graph (call.Has id) }
     {
-        match place_of(&self.ids, id) {
-            Ok(_) => Reply::Yes,
-            Err(_) => Reply::No,
+        match self.vertices.get(&id) {
+            Some(_) => Reply::Yes,
+            None => Reply::No,
         }
     }
 
-    fn make_vertex(&mut self, id: u64) -> Result<Reply, ModelRefused>
+    fn make_vertex(&mut self, alloc: Global, id: u64) -> Result<Reply, ModelRefused>
         ensures shape { self.new.shape ≡ self.old.shape }
-        ensures reply { IfOk result (λ reply. reply ≡ reply_to self.old.shape self.old.graph (Call.Vertex id)) }
-        ensures graph { OnOk result (self.new.graph ≡ graph_after_call self.old.shape self.old.graph (Call.Vertex id)) }
+        ensures reply { IfOk result (λ reply. reply ≡ reply_to self.old.shape self.old.graph (call.Vertex id)) }
+        ensures graph { OnOk result (self.new.graph ≡ graph_after_call self.old.shape self.old.graph (call.Vertex id)) }
     {
-        match place_of(&self.ids, id) {
-            Ok(_) => Ok(Reply::Exists),
-            Err(_) if is_bucket_full(&self.geometry, &self.ids, id) => Ok(Reply::TooLarge),
-            Err(place) => {
-                self.ids.insert(place, id)?;
-                Ok(Reply::Done)
-            }
+        if self.vertices.contains_key(&id) {
+            return Ok(Reply::Exists);
         }
+        // In these ranges distinct buckets have distinct pointers.
+        self.geometry.keeps_ranges();
+        let bucket = bucket_pointer(&self.geometry, id);
+        let count = count_of(&self.bucket_counts, bucket);
+        if count >= MOST_IN_BUCKET {
+            return Ok(Reply::TooLarge);
+        }
+        // The count stands there before the vertex does, so that raising it takes no memory.
+        self.bucket_counts.insert(bucket, count)?;
+        self.vertices.insert(id, HeldVertex::new(alloc))?;
+        self.bucket_counts.insert(bucket, count + 1)?;
+        Ok(Reply::Done)
+    }
+
+    fn drop_vertex(&mut self, id: u64) -> Reply
+        ensures shape { self.new.shape ≡ self.old.shape }
+        ensures reply { result ≡ reply_to self.old.shape self.old.graph (call.DropVertex id) }
+        ensures graph { self.new.graph ≡ graph_after_call self.old.shape self.old.graph (call.DropVertex id) }
+    {
+        if self.vertices.remove(&id).is_none() {
+            return Reply::NoVertex(id);
+        }
+        let bucket = bucket_pointer(&self.geometry, id);
+        let count = count_of(&self.bucket_counts, bucket);
+        let Ok(_) = self.bucket_counts.insert(bucket, count - 1) else {
+            unreachable!()
+        };
+        Reply::Done
     }
 }
 
-// Where an identifier is in the set, or else where it would stand.
-fn place_of(ids: &[u64], id: u64) -> Result<usize, usize>
-    requires { IsSet ids.now }
-    ensures { MatchResult result (λ _. has ids.now id ≡ true) (λ place. (place ≤ length ids.now) × (has ids.now id ≡ false) × (insert ids.now place id ≡ add id ids.now)) }
+// The word of the pointer to the bucket that leads to a vertex.
+fn bucket_pointer(geometry: &Geometry, id: u64) -> u64
+    ensures { result ≡ raw_of (bucket_of geometry.now id) }
 {
-    ids.binary_search(&id)
+    geometry.bucket(id).raw()
 }
 
-// Whether the bucket of an identifier that isn't in the set can't take it.
-fn is_bucket_full(geometry: &Geometry, ids: &[u64], id: u64) -> bool
-    requires { has ids.now id ≡ false }
-    ensures { result ≡ is_too_large (words_of_bucket geometry.now (with_vertex (bare_graph ids.now) id new_vertex) (bucket_of geometry.now id)) }
+// The count at a key, 0 where none stands.
+fn count_of(counts: &BTreeMap<u64, u64, Global>, key: u64) -> u64
+    ensures { result ≡ count_of counts.now.entries key }
 {
-    ids.len() >= MOST_IN_BUCKET
-        && count_in_bucket(geometry, ids, geometry.bucket(id)) >= MOST_IN_BUCKET
-}
-
-// How many identifiers have this bucket.
-fn count_in_bucket(geometry: &Geometry, ids: &[u64], bucket: DPtr) -> usize
-    ensures { result ≡ count_by (λ id. same_place (bucket_of geometry.now id) bucket) ids.now }
-{
-    ids.iter()
-        .filter(|id| geometry.bucket(**id) == bucket)
-        .count()
+    counts.get(&key).copied().unwrap_or(0)
 }

@@ -21,6 +21,31 @@ fn answers_calls(rt: HostRuntime) -> Result<(), Fail> {
 }
 
 #[test]
+fn a_dropped_vertex_may_be_made_again(rt: HostRuntime) -> Result<(), Fail> {
+    let alloc = rt.alloc();
+    let mut graph = PlainGraph::new(alloc, Geometry::standard());
+    assert!(rt; matches!(graph.apply(alloc, &Call::Vertex { id: 7 })?, Reply::Done));
+    assert!(rt; matches!(graph.apply(alloc, &Call::Vertex { id: 263 })?, Reply::Done));
+    assert!(rt;
+        matches!(
+            graph.apply(alloc, &Call::DropVertex { id: 7 })?,
+            Reply::Done
+        )
+    );
+    assert!(rt;
+        matches!(
+            graph.apply(alloc, &Call::DropVertex { id: 7 })?,
+            Reply::NoVertex(7)
+        )
+    );
+    assert!(rt; matches!(graph.apply(alloc, &Call::Has { id: 7 })?, Reply::No));
+    assert!(rt; matches!(graph.apply(alloc, &Call::Has { id: 263 })?, Reply::Yes));
+    assert!(rt; matches!(graph.apply(alloc, &Call::Vertex { id: 7 })?, Reply::Done));
+    assert!(rt; matches!(graph.apply(alloc, &Call::Has { id: 7 })?, Reply::Yes));
+    Ok(())
+}
+
+#[test]
 fn an_abort_leaves_the_graph(rt: HostRuntime) -> Result<(), Fail> {
     let alloc = rt.alloc();
     let mut graph = PlainGraph::new(alloc, Geometry::standard());
@@ -32,6 +57,20 @@ fn an_abort_leaves_the_graph(rt: HostRuntime) -> Result<(), Fail> {
     Ok(())
 }
 
+#[test]
+fn an_aborted_drop_leaves_the_vertex(rt: HostRuntime) -> Result<(), Fail> {
+    let alloc = rt.alloc();
+    let mut graph = PlainGraph::new(alloc, Geometry::standard());
+    let _made = graph.run(alloc, &vertex_twice(alloc, false)?)?;
+    let aborted = graph.run(alloc, &dropped(alloc, true)?)?;
+    assert!(rt; matches!(aborted.as_slice(), [Reply::Done, Reply::No]));
+    assert!(rt; matches!(graph.apply(alloc, &Call::Has { id: 3 })?, Reply::Yes));
+    let kept = graph.run(alloc, &dropped(alloc, false)?)?;
+    assert!(rt; matches!(kept.as_slice(), [Reply::Done, Reply::No]));
+    assert!(rt; matches!(graph.apply(alloc, &Call::Has { id: 3 })?, Reply::No));
+    Ok(())
+}
+
 // A transaction that makes a vertex, tries it again and looks for it.
 fn vertex_twice(alloc: Global, aborts: bool) -> Result<Txn, NoMemory>
     ensures { IfOk result (λ txn. AllByRecursion IsBareCall txn.calls) }
@@ -39,6 +78,20 @@ fn vertex_twice(alloc: Global, aborts: bool) -> Result<Txn, NoMemory>
     let mut calls = CallList::new(alloc);
     calls.push(Call::Vertex { id: 3 })?;
     calls.push(Call::Vertex { id: 3 })?;
+    calls.push(Call::Has { id: 3 })?;
+    Ok(Txn {
+        whole: false,
+        calls,
+        aborts,
+    })
+}
+
+// A transaction that drops that vertex and looks for it.
+fn dropped(alloc: Global, aborts: bool) -> Result<Txn, NoMemory>
+    ensures { IfOk result (λ txn. AllByRecursion IsBareCall txn.calls) }
+{
+    let mut calls = CallList::new(alloc);
+    calls.push(Call::DropVertex { id: 3 })?;
     calls.push(Call::Has { id: 3 })?;
     Ok(Txn {
         whole: false,

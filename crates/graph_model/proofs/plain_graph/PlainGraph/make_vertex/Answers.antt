@@ -1,63 +1,81 @@
-use Rattle.std.proofs.Common.{◌≡◌, false, ap, sym, subst, ◌∙◌}
+use Rattle.std.proofs.Common.{◌≡◌, true, false, is_some, refl, ap, sym, subst, ◌∙◌, arith}
 use Rattle.gdi_kinds.specs.declared.call.Call.TheVariants.{Vertex}
-use Rattle.gdi_kinds.specs.declared.reply.Reply.{Reply}
 use Rattle.gdi_kinds.specs.declared.reply.Reply.TheVariants.{Done, Exists, TooLarge}
-use Rattle.graph_model.specs.Maps.{has, add, IsSet}
-use Rattle.graph_model.specs.Graph.{Graph}
-use Rattle.graph_model.specs.Bare.{bare_graph}
-use Rattle.graph_model.specs.Plain.{Plain}
+use Rattle.graph_model.specs.Maps.{is_there, with_at}
+use Rattle.graph_model.specs.Graph.{new_vertex}
+use Rattle.graph_model.specs.Bare.{graph_of_vertices}
+use Rattle.graph_model.specs.Plain.{Plain, CountsBuckets}
 use Rattle.graph_model.specs.Steps.{Answer}
 use Rattle.graph_model.specs.Calls.{answer_to}
-use Rattle.graph_model.proofs.Sets.{IsSet-add}
-use Rattle.graph_model.proofs.Bare.{vertex-exists, vertex-too_large, vertex-done}
+use Rattle.graph_model.proofs.OrderedMaps.{lookup-at, insert_entry-with_at}
+use Rattle.graph_model.proofs.VertexSteps.{answer_to-vertex}
+use Rattle.graph_model.proofs.BucketCounts.{counts_held, counts_raised, bucket_is_full, bucket_has_room}
 use Rattle.graph_model.proofs.plain_graph.PlainGraph.make_vertex.Goals as goal
-use Rattle.graph_model.proofs.plain_graph.PlainGraph.make_vertex.Goals.{In-Ok, Then-is_bucket_full, In_ok-insert-in-Err-2}
 
-abbrev reply : Answer → Reply
-reply answer = answer.reply
+-- ---- a vertex that is there
 
-abbrev graph : Answer → Graph
-graph answer = answer.graph
-
-exists : (c : In-Ok) → answer_to c.args.self.now.shape c.args.self.now.graph (Vertex c.args.id) ≡ (record { graph = c.args.self.now.graph; reply = Exists })
+exists : (c : goal.Then-contains_key) → answer_to c.args.self.now.shape c.args.self.now.graph (Vertex c.args.id) ≡ (record { graph = c.args.self.now.graph; reply = Exists })
 exists c =
-    let there = rw c.deref.ensures.value at c.in-Ok.ensures in
+    let there = ap is_some (sym (lookup-at c.args.id c.self.inside.vertices.entries)) ∙ sym c.contains_key.ensures ∙ c.if-contains_key.true in
     subst (λ (p : Plain). answer_to p.shape p.graph (Vertex c.args.id) ≡ (record { graph = p.graph; reply = Exists })) c.self.view_is
-    (vertex-exists c.self.inside.geometry c.self.inside.ids.items c.args.id there)
+    (answer_to-vertex c.self.inside.geometry c.self.inside.vertices.entries c.args.id true _ there refl)
 
-too_large : (c : Then-is_bucket_full) → answer_to c.args.self.now.shape c.args.self.now.graph (Vertex c.args.id) ≡ (record { graph = c.args.self.now.graph; reply = TooLarge })
+pub returns-then-contains_key-clause-reply : goal.returns-then-contains_key-clause-reply
+returns-then-contains_key-clause-reply c = sym (ap (λ (answer : Answer). answer.reply) (exists c))
+
+pub returns-then-contains_key-clause-graph : goal.returns-then-contains_key-clause-graph
+returns-then-contains_key-clause-graph c = sym (ap (λ (answer : Answer). answer.graph) (exists c))
+
+-- ---- a full bucket
+
+too_large : (c : goal.Then-count-ge-MOST_IN_BUCKET) → answer_to c.args.self.now.shape c.args.self.now.graph (Vertex c.args.id) ≡ (record { graph = c.args.self.now.graph; reply = TooLarge })
 too_large c =
-    let absent : has c.self.inside.ids.items c.args.id ≡ false = rw c.deref.ensures.value at c.in-Err.ensures.1 in
+    let absent = ap is_some (sym (lookup-at c.args.id c.self.inside.vertices.entries)) ∙ sym c.contains_key.ensures ∙ c.if-contains_key.false in
+    let full = bucket_is_full c.self.inside.geometry c.self.inside.vertices.entries c.args.id c.bucket_pointer-bucket.result c.count_of-count.result c.keeps_ranges.ensures absent
+    c.bucket_pointer-bucket.ensures (c.count_of-count.ensures ∙ c.self.invariant c.bucket_pointer-bucket.result) (omega (arith, c.if-count-ge-MOST_IN_BUCKET.true)) in
     subst (λ (p : Plain). answer_to p.shape p.graph (Vertex c.args.id) ≡ (record { graph = p.graph; reply = TooLarge })) c.self.view_is
-    (vertex-too_large c.self.inside.geometry c.self.inside.ids.items c.args.id absent (cc))
+    (answer_to-vertex c.self.inside.geometry c.self.inside.vertices.entries c.args.id false true absent full)
 
-done : (c : In_ok-insert-in-Err-2) → answer_to c.args.self.now.shape c.args.self.now.graph (Vertex c.args.id) ≡ (record { graph = bare_graph (add c.args.id c.self.inside.ids.items); reply = Done })
+pub returns-then-count-ge-MOST_IN_BUCKET-clause-reply : goal.returns-then-count-ge-MOST_IN_BUCKET-clause-reply
+returns-then-count-ge-MOST_IN_BUCKET-clause-reply c = sym (ap (λ (answer : Answer). answer.reply) (too_large c))
+
+pub returns-then-count-ge-MOST_IN_BUCKET-clause-graph : goal.returns-then-count-ge-MOST_IN_BUCKET-clause-graph
+returns-then-count-ge-MOST_IN_BUCKET-clause-graph c = sym (ap (λ (answer : Answer). answer.graph) (too_large c))
+
+-- ---- a vertex that is made
+
+-- where no memory is left for it
+pub invariant_of-self-in_err-insert-2 : goal.invariant_of-self-in_err-insert-2
+invariant_of-self-in_err-insert-2 c =
+    subst (λ vertices. CountsBuckets c.self.inside.geometry vertices c.insert.new.self.entries) (sym c.in_err-insert-2.ensures.err)
+    (counts_held c.self.inside.geometry c.self.inside.vertices.entries c.self.inside.bucket_counts.entries c.self.invariant c.args.id c.bucket_pointer-bucket.result c.count_of-count.result
+    c.bucket_pointer-bucket.ensures (c.count_of-count.ensures ∙ c.self.invariant c.bucket_pointer-bucket.result) c.insert.new.self.entries c.in_ok-insert.ensures.entries)
+
+absent : (c : goal.In_ok-insert-3) → is_there c.self.inside.vertices.entries c.args.id ≡ false
+absent c = ap is_some (sym (lookup-at c.args.id c.self.inside.vertices.entries)) ∙ sym c.contains_key.ensures ∙ c.if-contains_key.false
+
+made : (c : goal.In_ok-insert-3) → c.insert-2.new.self.entries ≡ with_at c.self.inside.vertices.entries c.args.id new_vertex
+made c =
+    c.in_ok-insert-2.ensures.entries ∙ insert_entry-with_at c.args.id c.new.result c.self.inside.vertices.entries
+    ∙ ap (λ vertex. with_at c.self.inside.vertices.entries c.args.id vertex) c.new.ensures
+
+pub invariant_of-self-2 : goal.invariant_of-self-2
+invariant_of-self-2 c =
+    let led = c.count_of-count.ensures ∙ c.self.invariant c.bucket_pointer-bucket.result in
+    let held = counts_held c.self.inside.geometry c.self.inside.vertices.entries c.self.inside.bucket_counts.entries c.self.invariant c.args.id c.bucket_pointer-bucket.result c.count_of-count.result
+    c.bucket_pointer-bucket.ensures led c.insert.new.self.entries c.in_ok-insert.ensures.entries in
+    counts_raised c.self.inside.geometry c.self.inside.vertices.entries c.insert.new.self.entries held c.args.id c.bucket_pointer-bucket.result c.count_of-count.result
+    c.bucket_pointer-bucket.ensures led new_vertex c.insert-2.new.self.entries c.insert-3.new.self.entries (absent c) (made c) c.in_ok-insert-3.ensures.entries
+
+done : (c : goal.In_ok-insert-3) → answer_to c.args.self.now.shape c.args.self.now.graph (Vertex c.args.id) ≡ (record { graph = graph_of_vertices (with_at c.self.inside.vertices.entries c.args.id new_vertex); reply = Done })
 done c =
-    let ids = c.self.inside.ids.items in
-    let absent : has ids c.args.id ≡ false = rw c.deref.ensures.value at c.in-Err.ensures.1 in
-    subst (λ (p : Plain). answer_to p.shape p.graph (Vertex c.args.id) ≡ (record { graph = bare_graph (add c.args.id ids); reply = Done })) c.self.view_is
-    (vertex-done c.self.inside.geometry ids c.args.id absent (cc))
+    let room = bucket_has_room c.self.inside.geometry c.self.inside.vertices.entries c.args.id c.bucket_pointer-bucket.result c.count_of-count.result c.keeps_ranges.ensures (absent c)
+    c.bucket_pointer-bucket.ensures (c.count_of-count.ensures ∙ c.self.invariant c.bucket_pointer-bucket.result) c.if-count-ge-MOST_IN_BUCKET.false in
+    subst (λ (p : Plain). answer_to p.shape p.graph (Vertex c.args.id) ≡ (record { graph = graph_of_vertices (with_at c.self.inside.vertices.entries c.args.id new_vertex); reply = Done })) c.self.view_is
+    (answer_to-vertex c.self.inside.geometry c.self.inside.vertices.entries c.args.id false false (absent c) room)
 
-inserted : (c : In_ok-insert-in-Err-2) → c.insert.new.self.items ≡ add c.args.id c.self.inside.ids.items
-inserted c = c.in_ok-insert-in-Err-2.ensures.items ∙ rw c.deref.ensures.value at c.in-Err.ensures.2
+pub returns-clause-reply : goal.returns-clause-reply
+returns-clause-reply c = sym (ap (λ (answer : Answer). answer.reply) (done c))
 
-pub invariant_of-self-in-Err-2 : goal.invariant_of-self-in-Err-2
-invariant_of-self-in-Err-2 c = subst IsSet (sym (inserted c)) (IsSet-add c.args.id c.self.inside.ids.items c.self.invariant)
-
-pub returns-in-Ok-clause-reply : goal.returns-in-Ok-clause-reply
-returns-in-Ok-clause-reply c = sym (ap reply (exists c))
-
-pub returns-in-Ok-clause-graph : goal.returns-in-Ok-clause-graph
-returns-in-Ok-clause-graph c = sym (ap graph (exists c))
-
-pub returns-in-Err-clause-reply : goal.returns-in-Err-clause-reply
-returns-in-Err-clause-reply c = sym (ap reply (too_large c))
-
-pub returns-in-Err-clause-graph : goal.returns-in-Err-clause-graph
-returns-in-Err-clause-graph c = sym (ap graph (too_large c))
-
-pub returns-in_ok-insert-in-Err-2-clause-reply : goal.returns-in_ok-insert-in-Err-2-clause-reply
-returns-in_ok-insert-in-Err-2-clause-reply c = sym (ap reply (done c))
-
-pub returns-in_ok-insert-in-Err-2-clause-graph : goal.returns-in_ok-insert-in-Err-2-clause-graph
-returns-in_ok-insert-in-Err-2-clause-graph c = ap bare_graph (inserted c) ∙ sym (ap graph (done c))
+pub returns-clause-graph : goal.returns-clause-graph
+returns-clause-graph c = ap graph_of_vertices (made c) ∙ sym (ap (λ (answer : Answer). answer.graph) (done c))

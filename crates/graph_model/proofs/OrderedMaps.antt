@@ -1,0 +1,76 @@
+-- What the calls of an ordered map leave, in the words of maps as lists of entries.
+use Rattle.std.proofs.Common.{◌≡◌, ℕ, ◌+◌, Bool, true, false, cond, List, [], ◌∷◌, ◌++◌, Some, None, is_some, refl, ap, sym, subst, ◌∙◌, arith}
+use Rattle.std.specs.List.{AllByRecursion, count_by}
+use Rattle.std.specs.List.Sorted.{IsStrictlySortedBy}
+use Rattle.std.specs.Ordering.{nat_cmp, is_eq, match_ordering, ordering_reverse}
+use Rattle.std.specs.declared.cmp.Ordering.{Ordering}
+use Rattle.std.specs.Cmp.{IsTotalOrder}
+use Rattle.std.specs.declared.cmp.Ordering.TheVariants.{Less, Equal, Greater}
+use Rattle.std.specs.Map.{keys_of, lookup, remove_entry}
+use Rattle.std.specs.BTreeMap.{insert_entry, is_at}
+use Rattle.std.specs.FinMap.Entries.{by_order}
+use Rattle.std.proofs.lemmas.Bool.Decides.{nat_tests}
+use Rattle.std.proofs.lemmas.List.{append_assoc}
+use Rattle.std.proofs.lemmas.List.Sums.{sum_by-cons}
+use Rattle.std.proofs.lemmas.Map.Keys.{sorted_head, sorted_tail}
+use Rattle.graph_model.specs.Maps.{Map, at, is_there, with_at, without}
+
+in_middle : {K X : Type 0} (P : K → Type 0) (es : List (K × X)) (k : K) (x : X) (rest : List (K × X)) → AllByRecursion P (keys_of (es ++ (k, x) ∷ rest)) → P k
+in_middle P [] k x rest all = all.0
+in_middle P (e ∷ es) k x rest all = in_middle P es k x rest all.1
+
+insert_entry-push : {K X : Type 0} {R : K → K → Ordering} (total : IsTotalOrder R) (es : List (K × X)) (k : K) (x : X) (rest : List (K × X)) → IsStrictlySortedBy R (keys_of (es ++ (k, x) ∷ rest)) → insert_entry R es k x ≡ es ++ (k, x) ∷ []
+insert_entry-push total [] k x rest rises = refl
+insert_entry-push {R = R} total (e ∷ es) k x rest rises =
+    let below = in_middle (λ key. R e.0 key ≡ Less) es k x rest (sorted_head R e.0 _ rises) in
+    ap (λ order. match_ordering order ((k, x) ∷ e ∷ es) ((e.0, x) ∷ es) (e ∷ insert_entry R es k x)) (total.antisymm k e.0 ∙ ap ordering_reverse below)
+    ∙ ap (λ later. e ∷ later) (insert_entry-push total es k x rest (sorted_tail R e.0 _ rises))
+
+-- the entries of a copy so far take the next one at their end
+pub copied_more : {K X : Type 0} {R : K → K → Ordering} (total : IsTotalOrder R) (all so_far rest later after : List (K × X)) (k : K) (x : X) → IsStrictlySortedBy R (keys_of all)
+    → so_far ++ rest ≡ all → rest ≡ (k, x) ∷ later → after ≡ insert_entry R so_far k x → after ++ later ≡ all
+copied_more {R = R} total all so_far rest later after k x rises whole next is =
+    let split = ap (λ es. so_far ++ es) (sym next) ∙ whole in
+    ap (λ es. es ++ later) (is ∙ insert_entry-push total so_far k x later (subst (λ es. IsStrictlySortedBy R (keys_of es)) (sym split) rises))
+    ∙ append_assoc so_far ((k, x) ∷ []) later ∙ split
+
+module _ {X : Type 0} where
+  pub lookup-at : (k : ℕ) (es : Map ℕ X) → lookup (is_at (nat_cmp k)) es ≡ at es k
+  lookup-at k [] = refl
+  lookup-at k (e ∷ es) = ap (cond (is_eq (nat_cmp k e.0)) (Some e.1)) (lookup-at k es)
+
+  pub insert_entry-with_at : (k : ℕ) (x : X) (es : Map ℕ X) → insert_entry nat_cmp es k x ≡ with_at es k x
+  insert_entry-with_at k x [] = refl
+  insert_entry-with_at k x (e ∷ es) =
+      elim (nat_cmp k e.0) as (λ order. match_ordering order ((k, x) ∷ e ∷ es) ((e.0, x) ∷ es) (e ∷ insert_entry nat_cmp es k x) ≡ by_order order ((k, x) ∷ e ∷ es) ((e.0, x) ∷ es) (e ∷ with_at es k x)) [
+        | Less ↦ refl
+        | Equal ↦ refl
+        | Greater ↦ ap (λ later. e ∷ later) (insert_entry-with_at k x es)
+      ]
+
+  pub without-absent : (k : ℕ) (es : Map ℕ X) → is_there es k ≡ false → without es k ≡ es
+  without-absent k [] absent = refl
+  without-absent k (e ∷ es) absent = grind (arith, nat_tests, without-absent k es)
+
+  remove_entry-without : (k : ℕ) (es : Map ℕ X) → is_there (remove_entry (is_at (nat_cmp k)) es) k ≡ false → remove_entry (is_at (nat_cmp k)) es ≡ without es k
+  remove_entry-without k [] absent = refl
+  remove_entry-without k (e ∷ es) absent = grind (arith, nat_tests, without-absent k es, remove_entry-without k es)
+
+  -- a call takes out one entry, after which there is none
+  pub removed : (k : ℕ) (es left : Map ℕ X) → left ≡ remove_entry (is_at (nat_cmp k)) es → lookup (is_at (nat_cmp k)) left ≡ None → left ≡ without es k
+  removed k es left is none = is ∙ remove_entry-without k es (ap (λ l. is_there l k) (sym is) ∙ ap is_some (sym (lookup-at k left) ∙ none))
+
+  -- how many keys pass
+  pub count_by-with_at : (p : ℕ → Bool) (k : ℕ) (x : X) (es : Map ℕ X) → is_there es k ≡ false → count_by (λ e. p e.0) (with_at es k x) ≡ count_by (λ e. p e.0) es + cond (p k) 1 0
+  count_by-with_at p k x [] absent = refl
+  count_by-with_at p k x (e ∷ es) absent =
+      let later = λ (apart : is_there es k ≡ false). count_by-with_at p k x es apart in
+      let sums = sum_by-cons (λ (e : ℕ × X). cond (p e.0) 1 0) in
+      grind (arith, nat_tests, later, sums (k, x) (e ∷ es), sums e es, sums e (with_at es k x))
+
+  pub count_by-remove_entry : (p : ℕ → Bool) (k : ℕ) (es : Map ℕ X) → is_there es k ≡ true → count_by (λ e. p e.0) (remove_entry (is_at (nat_cmp k)) es) + cond (p k) 1 0 ≡ count_by (λ e. p e.0) es
+  count_by-remove_entry p k [] there = absurd (cc)
+  count_by-remove_entry p k (e ∷ es) there =
+      let later = λ (more : is_there es k ≡ true). count_by-remove_entry p k es more in
+      let sums = sum_by-cons (λ (e : ℕ × X). cond (p e.0) 1 0) in
+      grind (arith, nat_tests, later, sums e es, sums e (remove_entry (is_at (nat_cmp k)) es))
