@@ -1,0 +1,33 @@
+ghost use Rattle.std.specs.Prelude.{◌≡◌, ◌≢◌, IfOk, IfErr, OnOk};
+ghost use Rattle.object_store.specs.declared.phase.Phase.TheVariants.{Idle};
+ghost use Rattle.object_store.specs.Sound.{Continues, StaysExplained};
+ghost use Rattle.object_store.specs.Calls.{Reaches};
+ghost use Rattle.object_store.specs.Refusals.{RefusesReach};
+ghost use Rattle.id_hash.specs.Buckets.{AlwaysLeads, Finds, IsBucketFor};
+
+use crate::bucket::{object_in, read_bucket};
+use holder_codec::KeepsGraph;
+use object_store::Store;
+use rma_layout::DPtr;
+use std::alloc::Global;
+
+/// The object of a vertex. There is none exactly where the vertex is absent. It reads the bucket of the identifier
+/// alone.
+pub fn find<L: KeepsGraph, S: Store<L>>(
+    alloc: Global,
+    store: &mut S,
+    id: u64,
+) -> Result<Option<DPtr>, S::Refused>
+    requires begun { (S.state store.old).phase ≢ Idle }
+    requires leads { AlwaysLeads (S.state store.old) }
+    ensures keeps { Continues L.fits (S.state store.old) (S.state store.new) }
+    ensures reaches { OnOk result (Reaches (IsBucketFor (S.state store.old).shape id) (S.state store.old) (S.state store.new)) }
+    ensures looks { OnOk result ((S.state store.new).writes ≡ (S.state store.old).writes) }
+    ensures found { IfOk result (λ found. Finds id (S.state store.old) (S.state store.new) found) }
+    ensures refused { IfErr result (λ why. RefusesReach (IsBucketFor (S.state store.old).shape id) (S.state store.old) (S.state store.new) (S.names why) (S.for_memory why)) }
+    ensures explained { IfErr result (λ why. S.explains store.old store.new why) }
+    ensures explained_still { StaysExplained S.explains store.old store.new }
+{
+    let bucket = read_bucket(alloc, store, id)?;
+    Ok(object_in(&bucket, id))
+}

@@ -1,0 +1,95 @@
+ghost use Rattle.std.specs.Prelude.{◌≡◌};
+ghost use Rattle.rma_layout.specs.Shape.{Shape};
+ghost use Rattle.object_words.specs.Contents.{Contents, Agrees, overlay};
+ghost use Rattle.graph_model.specs.Graph.{Graph};
+ghost use Rattle.object_store.specs.declared.phase.Phase.TheVariants.{Idle};
+ghost use Rattle.holder_codec.specs.Represents.{Represents};
+ghost use Rattle.holder_codec.specs.Keeping.{keeps_by_steps};
+
+use crate::{add, calls_may_follow, find, remove, room};
+use holder_codec::KeepsGraph;
+use object_store::{PlainStore, Store};
+use object_words::Law;
+use rma_layout::{DPtr, Geometry};
+use std::alloc::Global;
+use std::test::Fail;
+
+/// The least that a law asks for that keeps a graph: what was a graph is one with the writes.
+struct Keeping;
+
+impl Law for Keeping {
+    type Note = ();
+
+    ghost fits = { λ shape entry. (store : Contents) (g : Graph) → Represents shape store g → Agrees entry.reads store →
+        (h : Graph) × Represents shape (overlay store entry.writes) h };
+}
+
+impl KeepsGraph for Keeping {
+    ghost keeps_graph = { keeps_by_steps Self.fits (λ shape entry store g range fits is agrees. fits store g is agrees) };
+}
+
+/// What a transaction finds of an identifier that it adds, and that it removes again.
+#[derive(Clone, Copy, Debug, PartialEq, Eq)]
+struct Findings {
+    has_room: bool,
+    added: bool,
+    is_spelled: bool,
+    found: Option<DPtr>,
+    left: Option<DPtr>,
+}
+
+/// Adds an identifier that is absent, looks at the words of its bucket, and removes it. Nothing is committed.
+fn add_and_remove<S: Store<Keeping>>(
+    alloc: Global,
+    store: &mut S,
+    id: u64,
+    at: DPtr,
+) -> Result<Option<Findings>, S::Refused>
+    requires { (S.state store.old).phase ≡ Idle }
+{
+    let geometry = store.geometry();
+    geometry.keeps_ranges();
+    store.begin(true)?;
+    if find(alloc, store, id)?.is_some() {
+        store.abort();
+        return Ok(None);
+    }
+    let has_room = room(alloc, store, id)?;
+    let added = add(alloc, store, id, at)?;
+    let words = store.read(geometry.bucket(id))?;
+    let is_spelled = words.as_slice() == [id, at.raw()].as_slice();
+    let found = find(alloc, store, id)?;
+    if found.is_none() {
+        store.abort();
+        return Ok(None);
+    }
+    remove(alloc, store, id)?;
+    let left = find(alloc, store, id)?;
+    store.abort();
+    Ok(Some(Findings {
+        has_room,
+        added,
+        is_spelled,
+        found,
+        left,
+    }))
+}
+
+#[test]
+fn calls(rt: HostRuntime) -> Result<(), Fail> {
+    calls_may_follow::<Keeping>();
+    let at = DPtr::new(1, 81);
+    let mut store = PlainStore::<Keeping>::new(rt.alloc(), Geometry::standard())?;
+    let Ok(findings) = add_and_remove(rt.alloc(), &mut store, 5, at) else {
+        return Err("refused".into());
+    };
+    let wanted = Findings {
+        has_room: true,
+        added: true,
+        is_spelled: true,
+        found: Some(at),
+        left: None,
+    };
+    assert_eq!(rt; findings, Some(wanted));
+    Ok(())
+}
