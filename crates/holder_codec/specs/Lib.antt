@@ -8,4 +8,5 @@ pub mod Reading
 pub mod Holders
 pub mod Represents
 pub mod Parts
+pub mod Knowing
 pub mod Keeping

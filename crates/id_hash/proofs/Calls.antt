@@ -1,15 +1,13 @@
 -- What a transaction finds in a bucket, and where the buckets lead once one is written.
-use Rattle.std.proofs.Common.{Result, Ok, Err, IfOk, IfErr, OnOk, ◌≡◌, ℕ, ◌^◌, ◌<◌, ◌≤◌, Bool, true, false, cond, List, [], length, refl, sym, ap, subst, ◌∙◌, arith, eqb, not, ◌+◌, ◌*◌, ◌∷◌, Option, Some, None}
-use Rattle.std.specs.Option.{unwrap_or}
+use Rattle.std.proofs.Common.{◌≡◌, ℕ, ◌^◌, ◌<◌, ◌≤◌, Bool, true, false, cond, List, [], length, refl, sym, ap, subst, ◌∙◌, arith, eqb, not, ◌+◌, ◌*◌, ◌∷◌, None}
 use Rattle.std.specs.List.{AllByRecursion, filter}
 use Rattle.std.specs.Ordering.{eq_by_cmp}
 use Rattle.rma_layout.specs.Shape.{Shape}
 use Rattle.rma_layout.specs.Ranges.{IsInRange}
 use Rattle.rma_layout.specs.Placement.{Place, FitsOneWord, bucket_of}
-use Rattle.object_words.specs.Contents.{Contents, place_cmp, words_at, content_of, with_words, overlay, Agrees, IsInOrder}
+use Rattle.object_words.specs.Contents.{Contents, place_cmp, content_of, with_words, overlay, IsInOrder}
 use Rattle.object_words.specs.Entries.{Entry, store_after}
-use Rattle.object_words.proofs.Places.{words_at_here, words_at-with_words, place_ties_itself, places_equal, in_order-with_words}
-use Rattle.object_words.proofs.Overlays.{content-overlay, put_over}
+use Rattle.object_words.proofs.Places.{place_ties_itself, places_equal}
 use Rattle.std.specs.Ordering.{nat_cmp}
 use Rattle.std.specs.Cmp.{nat_cmp_total}
 use Rattle.std.specs.declared.cmp.Ordering.TheVariants.{Less, Equal, Greater}
@@ -22,7 +20,6 @@ use Rattle.graph_model.specs.Graph.{Graph}
 use Rattle.graph_model.specs.Sizes.{most_words, is_too_large}
 use Rattle.object_store.specs.State.{StoreState, committed}
 use Rattle.object_store.specs.Sound.{Continues, GoesOn}
-use Rattle.object_store.specs.Calls.{ReadsObject}
 use Rattle.holder_codec.specs.declared.bucket_entry.BucketEntry.{BucketEntry}
 use Rattle.holder_codec.specs.declared.bucket_holder.BucketHolder.{BucketHolder}
 use Rattle.holder_codec.specs.Bucket.{IsBucketHolder, bucket_words}
@@ -30,40 +27,15 @@ use Rattle.holder_codec.specs.Represents.{Represents, VertexObjects, BucketsLead
 use Rattle.holder_codec.proofs.Lengths.{bucket_same}
 use Rattle.holder_codec.proofs.Leading.{entries_fit, bucket_is}
 use Rattle.holder_codec.proofs.Buckets.{length-entries}
-use Rattle.id_hash.specs.Buckets.{MayBeAt, takes_one_more}
+use Rattle.holder_codec.specs.Knowing.{MayBeAt}
+use Rattle.id_hash.specs.Buckets.{takes_one_more}
 use Rattle.id_hash.specs.Entries.{with_entry, without_entry}
+use Rattle.object_store.proofs.Working.{content_put}
 use Rattle.id_hash.proofs.Entries.{entries-with_at, entries-without, other_entries-with_at, other_entries-without, length-entries_of}
 
--- what follows from either answer of a call
-pub on_ok : {T E A B : Type 0} (result : Result T E) → IfOk result (λ _. A) → (A → B) → OnOk result B
-on_ok (Ok x) a f = f a
-on_ok (Err x) a f = tt
-
-pub ok_on_ok : {T E A B : Type 0} (result : Result T E) → OnOk result A → (A → B) → OnOk result B
-ok_on_ok (Ok x) a f = f a
-ok_on_ok (Err x) a f = tt
-
-pub both_on_ok : {T E C : Type 0} (A B : Type 0) (result : Result T E) → OnOk result A → OnOk result B → (A → B → C) → OnOk result C
-both_on_ok A B (Ok x) a b f = f a b
-both_on_ok A B (Err x) a b f = tt
-
-pub on_err : {T E : Type 0} {A B : E → Type 0} (result : Result T E) → IfErr result A → ((e : E) → A e → B e) → IfErr result B
-on_err (Ok x) a f = tt
-on_err (Err e) a f = f e a
-
--- what was found in an object stands there in each store that agrees
+-- where the transaction may be once it has read: at what it has seen
 module _ {N : Type 0} (old new : StoreState N) where
-  pub found_words : (object : Place) (words : List ℕ) → IsInOrder old.writes → ReadsObject object old new words → (contents : Contents) → Agrees new.reads contents
-      → content_of (overlay contents old.writes) object ≡ words
-  found_words object words ordered did contents agrees = content-overlay contents old.writes object ordered ∙ own_cases (words_at old.writes object) refl
-    where
-      own_cases : (own : Option (List ℕ)) → words_at old.writes object ≡ own → put_over own (content_of contents object) ≡ words
-      own_cases (Some ws) e = sym (did.found ∙ ap (λ o. unwrap_or o (content_of (committed new) object)) e)
-      own_cases None e =
-          let reads : new.reads ≡ with_words old.reads object words = did.reads ∙ rw e refl in
-          agrees object words (ap (λ contents'. words_at contents' object) reads ∙ words_at_here old.reads object words)
-
-  pub may_be_at : (fits : Shape → Entry N → Type 0) → Continues fits old new → GoesOn old new → (found : (g : Graph) × Represents new.shape (store_after new.seen) g) → MayBeAt old (committed new)
+  pub may_be_at : (fits : Shape → Entry N → Type 0) → Continues fits old new → GoesOn old new → (found : (g : Graph) × Represents new.shape (store_after new.seen) g) → MayBeAt old.shape old.reads (committed new)
   may_be_at fits keeps goes_on found = record {
     graph = found.0;
     represents = subst (λ shape. Represents shape (committed new) found.0) keeps.shape found.1;
@@ -86,19 +58,6 @@ pub is_spelled : (shape : Shape) (contents : Contents) (vertices : VertexObjects
     → content_of contents (bucket_of shape id) ≡ words → ((bucket : BucketHolder) → IsBucketHolder bucket → words ≡ bucket_words bucket → ⊥) → ⊥
 is_spelled shape contents vertices id words ranges leads found none =
     none (record { entries = entries_of shape vertices (bucket_of shape id) }) (entries_fit shape contents vertices (bucket_of shape id) leads) (sym found ∙ spells_entries shape contents vertices id ranges leads)
-
--- words put at one object more
-pub content_put : (contents writes : Contents) (object : Place) (words : List ℕ) (other : Place) → IsInOrder writes
-    → content_of (overlay contents (with_words writes object words)) other ≡ cond (eq_by_cmp place_cmp other object) words (content_of (overlay contents writes) other)
-content_put contents writes object words other ordered =
-    content-overlay contents (with_words writes object words) other (in_order-with_words writes object words ordered)
-    ∙ (ap (λ o. put_over o (content_of contents other)) (words_at-with_words writes object words other)
-    ∙ (cases (eq_by_cmp place_cmp other object)
-    ∙ ap (cond (eq_by_cmp place_cmp other object) words) (sym (content-overlay contents writes other ordered))))
-  where
-    cases : (tie : Bool) → put_over (cond tie (Some words) (words_at writes other)) (content_of contents other) ≡ cond tie words (put_over (words_at writes other) (content_of contents other))
-    cases true = refl
-    cases false = refl
 
 -- where the buckets lead once one of them has other entries
 pub leads_after : (shape : Shape) (contents writes : Contents) (vertices changed : VertexObjects) (id : ℕ) (words : List ℕ) → IsInOrder writes

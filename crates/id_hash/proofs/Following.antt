@@ -8,7 +8,7 @@ use Rattle.graph_model.specs.Maps.{with_at, without}
 use Rattle.object_store.specs.State.{StoreState}
 use Rattle.holder_codec.specs.Represents.{Represents, VertexObjects, BucketsLead}
 use Rattle.holder_codec.proofs.Leading.{represents_leads}
-use Rattle.id_hash.specs.Buckets.{MayBeAt}
+use Rattle.holder_codec.specs.Knowing.{MayBeAt}
 use Rattle.id_hash.specs.Following.{Follows, LeadsAtFirst, LeadsAfterLooks, AbsentAfterLooks, FoundTells, LeadsAfterAdd, LeadsAfterRemove}
 
 pub is_no_object : (found : Option Place) → is_some found ≡ false → found ≡ None
@@ -26,7 +26,7 @@ module _ (N : Type 0) where
       (may.represents.vertices, subst (λ (writes : Contents). BucketsLead state.shape (overlay store writes) may.represents.vertices) (sym none) led)
 
   -- a store at which the transaction may be afterwards is one at which it may have been before
-  before : (old new : StoreState N) → Follows old new → (store : Contents) → MayBeAt new store → MayBeAt old store
+  before : (old new : StoreState N) → Follows old new → (store : Contents) → MayBeAt new.shape new.reads store → MayBeAt old.shape old.reads store
   before old new follows store may = record {
     graph = may.graph;
     represents = subst (λ (shape : Shape). Represents shape store may.graph) follows.shape may.represents;
@@ -50,12 +50,12 @@ module _ (N : Type 0) where
       (led.0, led_after old new follows store led.0 (subst (λ (writes : Contents). BucketsLead old.shape (overlay store writes) led.0) (sym same) led.1))
 
   pub absent : AbsentAfterLooks N
-  absent id old new follows same is store vertices may leads = is store vertices (before old new follows store may) (led_before old new follows same store vertices leads)
+  absent id old new follows same is store may vertices leads = is store (before old new follows store may) vertices (led_before old new follows same store vertices leads)
 
   pub found : FoundTells N
   found id old new follows same = (
-    λ finds store vertices may leads. sym (finds store vertices may.agrees (led_before old new follows same store vertices leads)),
-    λ object finds store vertices may leads. subst IsSome (finds store vertices may.agrees (led_before old new follows same store vertices leads)) refl,
+    λ finds store may vertices leads. sym (finds store vertices may.agrees (led_before old new follows same store vertices leads)),
+    λ object finds store may vertices leads. subst IsSome (finds store vertices may.agrees (led_before old new follows same store vertices leads)) refl,
   )
 
   pub added : LeadsAfterAdd N
@@ -68,7 +68,7 @@ module _ (N : Type 0) where
       did_cases true is =
           let was = before old new follows store may in
           let led = leads store was in
-          (with_at led.0 id object, led_after old new follows store (with_at led.0 id object) (adds.leads is store led.0 may.agrees led.1 (absent store led.0 was led.1)))
+          (with_at led.0 id object, led_after old new follows store (with_at led.0 id object) (adds.leads is store led.0 may.agrees led.1 (absent store was led.0 led.1)))
       did_cases false is =
           looked old new follows (adds.unchanged is) leads store may
 

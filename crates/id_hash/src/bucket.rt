@@ -13,7 +13,8 @@ ghost use Rattle.object_store.specs.Refusals.{RefusesReach};
 ghost use Rattle.holder_codec.specs.declared.bucket_entry.BucketEntry.{BucketEntry};
 ghost use Rattle.holder_codec.specs.Bucket.{IsBucketHolder, bucket_words, is_entry_before};
 ghost use Rattle.holder_codec.specs.Order.{is_rising};
-ghost use Rattle.id_hash.specs.Buckets.{AlwaysLeads, IsBucketFor, MayBeAt};
+ghost use Rattle.holder_codec.specs.Knowing.{MayBeAt};
+ghost use Rattle.id_hash.specs.Buckets.{AlwaysLeads, IsBucketFor};
 ghost use Rattle.id_hash.specs.Entries.{entry_of, with_entry, without_entry};
 
 use gdi_kinds::NoMemory;
@@ -37,7 +38,7 @@ pub(crate) fn read_bucket<L: KeepsGraph, S: Store<L>>(
     ensures keeps { Continues L.fits (S.state store.old) (S.state store.new) }
     ensures reaches { OnOk result (Reaches (IsBucketFor (S.state store.old).shape id) (S.state store.old) (S.state store.new)) }
     ensures looks { OnOk result ((S.state store.new).writes ≡ (S.state store.old).writes) }
-    ensures stands { OnOk result (MayBeAt (S.state store.old) (committed (S.state store.new))) }
+    ensures stands { OnOk result (MayBeAt (S.state store.old).shape (S.state store.old).reads (committed (S.state store.new))) }
     ensures holder { IfOk result IsBucketHolder }
     ensures words { IfOk result (λ bucket. (contents : Contents) → Agrees (S.state store.new).reads contents →
         content_of (overlay contents (S.state store.old).writes) (bucket_of (S.state store.old).shape id) ≡ bucket_words bucket) }

@@ -1,18 +1,20 @@
 -- A call that does its work by several calls of a store.
-use Rattle.std.proofs.Common.{◌≡◌, ◌≢◌, ℕ, Bool, true, false, cond, List, refl, sym, ap, subst, ◌∙◌, Option, Some, None, inl, inr, IsSome, ◌⊎◌}
+use Rattle.std.proofs.Common.{Result, Ok, Err, IfOk, IfErr, OnOk, ◌≡◌, ◌≢◌, ℕ, Bool, true, false, cond, List, refl, sym, ap, subst, ◌∙◌, Option, Some, None, inl, inr, IsSome, ◌⊎◌}
+use Rattle.std.specs.Option.{unwrap_or}
 use Rattle.std.specs.Prelude.{is_some, ◌++◌}
 use mathlib.Core.List.{IsPrefix}
 use Rattle.std.proofs.lemmas.List.{append_assoc}
 use Rattle.std.specs.Ordering.{eq_by_cmp}
 use Rattle.rma_layout.specs.Shape.{Shape}
 use Rattle.rma_layout.specs.Placement.{Place}
-use Rattle.object_words.specs.Contents.{Contents, place_cmp, words_at, with_words}
+use Rattle.object_words.specs.Contents.{Contents, place_cmp, words_at, content_of, with_words, overlay, Agrees, IsInOrder}
 use Rattle.object_words.specs.Entries.{Entry}
-use Rattle.object_words.proofs.Places.{words_at-with_words, places_equal}
+use Rattle.object_words.proofs.Places.{words_at-with_words, words_at_here, places_equal, in_order-with_words}
+use Rattle.object_words.proofs.Overlays.{content-overlay, put_over}
 use Rattle.object_store.specs.declared.phase.Phase.TheVariants.{Writing}
-use Rattle.object_store.specs.State.{StoreState, Named, names_nothing, names_object}
+use Rattle.object_store.specs.State.{StoreState, Named, committed, names_nothing}
 use Rattle.object_store.specs.Sound.{Continues, StaysExplained, KeepsCommits, GoesOn}
-use Rattle.object_store.specs.Calls.{Aborts, ReadsObject, WritesObject, Reaches, reads_with}
+use Rattle.object_store.specs.Calls.{Aborts, ReadsObject, WritesObject, Reaches}
 use Rattle.object_store.specs.Refusals.{RefusesAccess, RefusesReach}
 
 pub explained-then : {S R : Type 0} (explains : S → S → R → Type 0) (old mid new : S)
@@ -129,3 +131,45 @@ module _ {N : Type 0} (old new : StoreState N) where
   -- of one that gives up for want of memory
   pub gives_up_refuses : (Reached : Place → Type 0) (named : Named) (for_memory : Type 0) → Aborts old new → named ≡ names_nothing → for_memory → RefusesReach Reached old new named for_memory
   gives_up_refuses Reached named for_memory aborted nothing none = record { aborted = aborted; names = inl nothing; memory = λ _. none }
+
+-- words put at one object more
+pub content_put : (contents writes : Contents) (object : Place) (words : List ℕ) (other : Place) → IsInOrder writes
+    → content_of (overlay contents (with_words writes object words)) other ≡ cond (eq_by_cmp place_cmp other object) words (content_of (overlay contents writes) other)
+content_put contents writes object words other ordered =
+    content-overlay contents (with_words writes object words) other (in_order-with_words writes object words ordered)
+    ∙ (ap (λ o. put_over o (content_of contents other)) (words_at-with_words writes object words other)
+    ∙ (cases (eq_by_cmp place_cmp other object)
+    ∙ ap (cond (eq_by_cmp place_cmp other object) words) (sym (content-overlay contents writes other ordered))))
+  where
+    cases : (tie : Bool) → put_over (cond tie (Some words) (words_at writes other)) (content_of contents other) ≡ cond tie words (put_over (words_at writes other) (content_of contents other))
+    cases true = refl
+    cases false = refl
+
+-- what was found in an object stands there in each store that agrees
+module _ {N : Type 0} (old new : StoreState N) where
+  pub found_words : (object : Place) (words : List ℕ) → IsInOrder old.writes → ReadsObject object old new words → (contents : Contents) → Agrees new.reads contents
+      → content_of (overlay contents old.writes) object ≡ words
+  found_words object words ordered did contents agrees = content-overlay contents old.writes object ordered ∙ own_cases (words_at old.writes object) refl
+    where
+      own_cases : (own : Option (List ℕ)) → words_at old.writes object ≡ own → put_over own (content_of contents object) ≡ words
+      own_cases (Some ws) e = sym (did.found ∙ ap (λ o. unwrap_or o (content_of (committed new) object)) e)
+      own_cases None e =
+          let reads : new.reads ≡ with_words old.reads object words = did.reads ∙ rw e refl in
+          agrees object words (ap (λ contents'. words_at contents' object) reads ∙ words_at_here old.reads object words)
+
+-- what follows from either answer of a call
+pub on_ok : {T E A B : Type 0} (result : Result T E) → IfOk result (λ _. A) → (A → B) → OnOk result B
+on_ok (Ok x) a f = f a
+on_ok (Err x) a f = tt
+
+pub ok_on_ok : {T E A B : Type 0} (result : Result T E) → OnOk result A → (A → B) → OnOk result B
+ok_on_ok (Ok x) a f = f a
+ok_on_ok (Err x) a f = tt
+
+pub both_on_ok : {T E C : Type 0} (A B : Type 0) (result : Result T E) → OnOk result A → OnOk result B → (A → B → C) → OnOk result C
+both_on_ok A B (Ok x) a b f = f a b
+both_on_ok A B (Err x) a b f = tt
+
+pub on_err : {T E : Type 0} {A B : E → Type 0} (result : Result T E) → IfErr result A → ((e : E) → A e → B e) → IfErr result B
+on_err (Ok x) a f = tt
+on_err (Err e) a f = f e a

@@ -35,7 +35,7 @@ words_with-requires-clause-absent g c =
     let read = c.in_ok-bucket.ensures in
     let led = c.requires.leads (committed new) read.stands in
     ap (λ entries. entry_of entries c.args.id) (bucket_entries old.shape (overlay (committed new) old.writes) led.0 c.args.id c.in_ok-bucket.bucket read.ranges led.1 read.holder (read.words (committed new) read.keeps.sound.agrees))
-    ∙ none-entries old.shape led.0 c.args.id (c.requires.absent (committed new) led.0 read.stands led.1)
+    ∙ none-entries old.shape led.0 c.args.id (c.requires.absent (committed new) read.stands led.0 led.1)
 
 pub write_bucket-requires-clause-few : goal.write_bucket-requires-clause-few
 write_bucket-requires-clause-few g c =

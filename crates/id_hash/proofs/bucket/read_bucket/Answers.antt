@@ -5,10 +5,10 @@ use Rattle.rma_layout.specs.Ranges.{IsInRange}
 use Rattle.object_words.specs.Contents.{IsInOrder, overlay, content_of}
 use Rattle.object_store.specs.State.{committed}
 use Rattle.object_store.specs.Calls.{Reaches}
-use Rattle.object_store.proofs.Working.{read_reaches}
+use Rattle.object_store.proofs.Working.{read_reaches, found_words}
 use Rattle.holder_codec.specs.declared.bucket_holder.BucketHolder.{BucketHolder}
 use Rattle.holder_codec.specs.Bucket.{IsBucketHolder, bucket_words}
-use Rattle.id_hash.proofs.Calls.{found_words, may_be_at, is_spelled}
+use Rattle.id_hash.proofs.Calls.{may_be_at, is_spelled}
 use Rattle.id_hash.proofs.bucket.read_bucket.Goals as goal
 
 pub returns-in-Ok-Some-clause-reaches : goal.returns-in-Ok-Some-clause-reaches

@@ -1,8 +1,7 @@
 use Rattle.std.proofs.Common.{subst, ap, ◌∙◌, ◌≡◌}
 use Rattle.rma_layout.specs.Placement.{Place, bucket_of}
 use Rattle.object_store.specs.Calls.{Reaches}
-use Rattle.object_store.proofs.Working.{write_reaches}
-use Rattle.id_hash.proofs.Calls.{on_ok}
+use Rattle.object_store.proofs.Working.{write_reaches, on_ok}
 use Rattle.id_hash.proofs.bucket.write_bucket.Goals as goal
 
 pub returns-clause-reaches : goal.returns-clause-reaches

@@ -7,10 +7,10 @@ use Rattle.graph_model.specs.Maps.{without}
 use Rattle.object_store.specs.State.{committed}
 use Rattle.object_store.specs.Calls.{Reaches}
 use Rattle.object_store.specs.Refusals.{RefusesReach}
-use Rattle.object_store.proofs.Working.{reaches-then, refuses-then}
+use Rattle.object_store.proofs.Working.{reaches-then, refuses-then, ok_on_ok, both_on_ok, on_err}
 use Rattle.holder_codec.specs.Represents.{BucketsLead}
 use Rattle.id_hash.specs.Buckets.{IsBucketFor}
-use Rattle.id_hash.proofs.Calls.{ok_on_ok, both_on_ok, on_err, few_without, leads_without}
+use Rattle.id_hash.proofs.Calls.{few_without, leads_without}
 use Rattle.id_hash.proofs.removing.remove.Goals as goal
 
 pub write_bucket-requires-clause-few : goal.write_bucket-requires-clause-few

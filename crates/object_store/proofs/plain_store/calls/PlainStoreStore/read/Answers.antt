@@ -1,7 +1,6 @@
-use Rattle.std.proofs.Common.{rules, cond, refl, sym, ap, ◌∙◌, ◌≡◌, Some, ℕ, ◌-◌, ◌^◌, length, List, Bool}
-use Rattle.std.specs.Prelude.{is_some}
+use Rattle.std.proofs.Common.{rules, ap, ◌∙◌, ◌≡◌, Some, ℕ, List}
 use Rattle.rma_layout.specs.Placement.{Place}
-use Rattle.object_words.specs.Contents.{words_at, with_words}
+use Rattle.object_words.specs.Contents.{words_at}
 use Rattle.object_words.specs.Entries.{store_after}
 use Rattle.object_store.proofs.Staying.{read_stays}
 use Rattle.object_store.proofs.plain_store.calls.PlainStoreStore.read.Goals as goal
