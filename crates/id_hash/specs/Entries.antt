@@ -1,4 +1,4 @@
--- The entries of a bucket by their identifiers.
+-- The entries of a bucket by their identifiers. The contracts of private functions alone cite these.
 use Rattle.std.specs.Prelude.{◌==◌, ℕ, not, List, [], ◌∷◌, Option, Some, None, if◌then◌else◌}
 use Rattle.std.specs.List.{filter}
 use Rattle.std.specs.Ordering.{nat_cmp}
