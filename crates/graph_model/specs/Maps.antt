@@ -28,7 +28,7 @@ with_at m key x = put nat_cmp key x m
 abbrev pub without : {X : Type 0} → Map ℕ X → ℕ → Map ℕ X
 without m key = filter (λ entry. not (entry.0 == key)) m
 
-abbrev pub keys : {X : Type 0} → Map ℕ X → List ℕ
+abbrev pub keys : {K X : Type 0} → Map K X → List K
 keys m = map (λ entry. entry.0) m
 
 -- a set of numbers

@@ -9,15 +9,12 @@ use Rattle.std.specs.FinMap.{IsAntisymmetric}
 use Rattle.std.specs.FinMap.Entries.{find, below_all, is_sorted, is_some-find}
 use Rattle.std.proofs.lemmas.Bool.{and_parts, and_from}
 use Rattle.std.proofs.lemmas.Bool.Decides.{nat_tests}
-use Rattle.graph_model.specs.Maps.{Map, IsMap}
+use Rattle.graph_model.specs.Maps.{Map, IsMap, keys}
 use Rattle.graph_model.proofs.Entries.{All-filter, All-find}
 use Rattle.holder_codec.specs.Order.{is_rising}
 
 pub is_less : (a b : ℕ) → is_lt (nat_cmp a b) ≡ true → ltb a b ≡ true
 is_less a b less = grind (arith, nat_tests)
-
-abbrev pub keys_in : {K X : Type 0} → Map K X → List K
-keys_in m = map (λ entry. entry.0) m
 
 -- the value that is there
 pub some_of : {X : Type 0} (o : Option X) → is_some o ≡ true → (x : X) × (o ≡ Some x)
@@ -92,39 +89,39 @@ same_fronts p (x ∷ xs) ys (z ∷ zs) ws a b c d same =
     let rest : xs ++ ys ≡ zs ++ ws = cc in
     λ i. first i ∷ same_fronts p xs ys zs ws a.1 b c.1 d rest i
 
-none_of : {X : Type 0} (o : Option X) → is_some o ≡ false → o ≡ None
+pub none_of : {X : Type 0} (o : Option X) → is_some o ≡ false → o ≡ None
 none_of None none = refl
 none_of (Some x) none = absurd cc
 
 module _ {K : Type 0} (R : K → K → Ordering) where
-  below_by_keys : {X Y : Type 0} (k : K) (es : Map K X) (fs : Map K Y) → keys_in es ≡ keys_in fs → below_all R k es ≡ below_all R k fs
+  below_by_keys : {X Y : Type 0} (k : K) (es : Map K X) (fs : Map K Y) → keys es ≡ keys fs → below_all R k es ≡ below_all R k fs
   below_by_keys k [] [] same = refl
   below_by_keys k [] (f ∷ fs) same = absurd cc
   below_by_keys k (e ∷ es) [] same = absurd cc
   below_by_keys k (e ∷ es) (f ∷ fs) same =
       let first : e.0 ≡ f.0 = cc in
-      let rest : keys_in es ≡ keys_in fs = cc in
+      let rest : keys es ≡ keys fs = cc in
       λ i. is_lt (R k (first i)) && below_by_keys k es fs rest i
 
-  sorted_by_keys : {X Y : Type 0} (es : Map K X) (fs : Map K Y) → keys_in es ≡ keys_in fs → is_sorted R es ≡ is_sorted R fs
+  sorted_by_keys : {X Y : Type 0} (es : Map K X) (fs : Map K Y) → keys es ≡ keys fs → is_sorted R es ≡ is_sorted R fs
   sorted_by_keys [] [] same = refl
   sorted_by_keys [] (f ∷ fs) same = absurd cc
   sorted_by_keys (e ∷ es) [] same = absurd cc
   sorted_by_keys (e ∷ es) (f ∷ fs) same =
       let first : e.0 ≡ f.0 = cc in
-      let rest : keys_in es ≡ keys_in fs = cc in
+      let rest : keys es ≡ keys fs = cc in
       ap (λ k. below_all R k es && is_sorted R es) first ∙ λ i. below_by_keys f.0 es fs rest i && sorted_by_keys es fs rest i
 
   -- a map has its keys in order, whatever stands at them
-  pub IsMap-by_keys : {X Y : Type 0} (es : Map K X) (fs : Map K Y) → keys_in es ≡ keys_in fs → IsMap R fs → IsMap R es
+  pub IsMap-by_keys : {X Y : Type 0} (es : Map K X) (fs : Map K Y) → keys es ≡ keys fs → IsMap R fs → IsMap R es
   IsMap-by_keys es fs same sorted = sorted_by_keys es fs same ∙ sorted
 
   -- what has a value in one has a value in the other
-  pub find-by_keys : {X Y : Type 0} (es : Map K X) (fs : Map K Y) (k : K) (x : X) → keys_in es ≡ keys_in fs → find R k es ≡ Some x → (y : Y) × (find R k fs ≡ Some y)
+  pub find-by_keys : {X Y : Type 0} (es : Map K X) (fs : Map K Y) (k : K) (x : X) → keys es ≡ keys fs → find R k es ≡ Some x → (y : Y) × (find R k fs ≡ Some y)
   find-by_keys es fs k x same found =
       some_of (find R k fs) (is_some-find R k fs ∙ ap (list_any (λ q. is_eq (R k q))) (sym same) ∙ sym (is_some-find R k es) ∙ ap is_some found)
 
-  pub none-by_keys : {X Y : Type 0} (es : Map K X) (fs : Map K Y) (k : K) → keys_in es ≡ keys_in fs → find R k es ≡ None → find R k fs ≡ None
+  pub none-by_keys : {X Y : Type 0} (es : Map K X) (fs : Map K Y) (k : K) → keys es ≡ keys fs → find R k es ≡ None → find R k fs ≡ None
   none-by_keys es fs k same none =
       none_of (find R k fs) (is_some-find R k fs ∙ ap (list_any (λ q. is_eq (R k q))) (sym same) ∙ sym (is_some-find R k es) ∙ ap is_some none)
 

@@ -130,9 +130,6 @@ abbrev pub AreApart : List Place → Type 0
 AreApart [] = Unit {0}
 AreApart (place ∷ places) = AllByRecursion (λ other. other ≢ place) places × AreApart places
 
-abbrev pub edge_keys_of : {X : Type 0} → Map EdgeKey X → List EdgeKey
-edge_keys_of m = map (λ entry. entry.0) m
-
 abbrev pub places_of : {K : Type 0} → Map K Place → List Place
 places_of objects = map (λ entry. entry.1) objects
 
@@ -143,7 +140,7 @@ RestIsEmpty shape store held = (place : Place) → place ≢ metadata → ¬ IsB
 
 pub record IsRepresented (shape : Shape) (store : Contents) (g : Graph) (vertices : VertexObjects) (edges : EdgeObjects) : Type 0 where
   pub vertex_keys : keys vertices ≡ keys g.vertices
-  pub edge_keys : edge_keys_of edges ≡ edge_keys_of (heavy_edges g.edges)
+  pub edge_keys : keys edges ≡ keys (heavy_edges g.edges)
   pub names : HasNames store g.labels g.types
   pub buckets : HasBuckets shape store vertices
   pub held_vertices : HasVertices shape store g vertices edges

@@ -1,6 +1,6 @@
 -- What a transaction finds in a bucket, and where the buckets lead once one is written.
 use Rattle.std.proofs.Common.{◌≡◌, ℕ, ◌^◌, ◌<◌, ◌≤◌, Bool, true, false, cond, List, [], length, refl, sym, ap, subst, ◌∙◌, arith, eqb, not, ◌+◌, ◌*◌, ◌∷◌, None}
-use Rattle.std.specs.List.{AllByRecursion, filter}
+use Rattle.std.specs.List.{AllByRecursion}
 use Rattle.std.specs.Ordering.{eq_by_cmp}
 use Rattle.rma_layout.specs.Shape.{Shape}
 use Rattle.rma_layout.specs.Ranges.{IsInRange}
@@ -15,6 +15,7 @@ use Rattle.std.specs.FinMap.{nat_cmp-IsAntisymmetric}
 use Rattle.std.specs.FinMap.Entries.{by_order}
 use Rattle.std.proofs.lemmas.Bool.Decides.{nat_tests}
 use Rattle.graph_model.specs.Maps.{IsMap, at, with_at, without}
+use Rattle.graph_model.proofs.Sets.{length-filter-le}
 use Rattle.graph_model.proofs.Entries.{IsMap-put, All-put, IsMap-filter, All-filter}
 use Rattle.graph_model.specs.Graph.{Graph}
 use Rattle.graph_model.specs.Sizes.{most_words, is_too_large}
@@ -112,12 +113,6 @@ pub few_with : (bucket : BucketHolder) (entry : BucketEntry) → not (is_too_lar
 few_with bucket entry takes =
     let room : 2 * (length bucket.entries + 1) ≤ most_words = grind (arith, nat_tests) in
     omega (arith, room, length-entries (with_entry entry bucket.entries), length-with_entry entry bucket.entries)
-
-length-filter-le : {X : Type 0} (p : X → Bool) (xs : List X) → length (filter p xs) ≤ length xs
-length-filter-le p [] = omega arith
-length-filter-le p (x ∷ xs) =
-    let rest = length-filter-le p xs in
-    elim (p x) as (λ b. length (cond b (x ∷ filter p xs) (filter p xs)) ≤ length (x ∷ xs)) [ true ↦ omega (arith, rest) | false ↦ omega (arith, rest) ]
 
 -- and so are those of one from which an entry is taken
 pub few_without : (shape : Shape) (contents : Contents) (vertices : VertexObjects) (id other : ℕ) (bucket : BucketHolder) → IsInRange shape → BucketsLead shape contents vertices

@@ -1,8 +1,7 @@
 -- The calls on the buckets may follow one another.
-use Rattle.std.proofs.Common.{◌≡◌, Bool, true, false, refl, sym, subst, Option, Some, None}
-use Rattle.std.specs.Prelude.{IsSome, is_some}
+use Rattle.std.proofs.Common.{◌≡◌, Bool, true, false, refl, sym, subst}
+use Rattle.std.specs.Prelude.{IsSome}
 use Rattle.rma_layout.specs.Shape.{Shape}
-use Rattle.rma_layout.specs.Placement.{Place}
 use Rattle.object_words.specs.Contents.{Contents, overlay}
 use Rattle.graph_model.specs.Maps.{with_at, without}
 use Rattle.object_store.specs.State.{StoreState}
@@ -10,14 +9,6 @@ use Rattle.holder_codec.specs.Represents.{Represents, VertexObjects, BucketsLead
 use Rattle.holder_codec.proofs.Leading.{represents_leads}
 use Rattle.holder_codec.specs.Knowing.{MayBeAt}
 use Rattle.id_hash.specs.Following.{Follows, LeadsAtFirst, LeadsAfterLooks, AbsentAfterLooks, FoundTells, LeadsAfterAdd, LeadsAfterRemove}
-
-pub is_no_object : (found : Option Place) → is_some found ≡ false → found ≡ None
-is_no_object None e = refl
-is_no_object (Some object) e = absurd (cc e)
-
-pub is_some_object : (found : Option Place) → is_some found ≡ true → (object : Place) × (found ≡ Some object)
-is_some_object None e = absurd (cc e)
-is_some_object (Some object) e = (object, refl)
 
 module _ (N : Type 0) where
   pub first : LeadsAtFirst N

@@ -2,7 +2,7 @@ ghost use Rattle.std.specs.Prelude.{◌≡◌, ◌+◌, ◌<◌, ◌≤◌, ◌^
 ghost use Rattle.object_store.specs.declared.phase.Phase.TheVariants.{Idle};
 ghost use Rattle.rma_layout.specs.Placement.{IsBlock, IsReserved};
 
-use crate::{PlainRefused, PlainStore, Store};
+use crate::{PlainRefused, PlainStore, Store, give_up};
 use object_words::{Carries, Law, Words};
 use rma_layout::{DPtr, Geometry};
 use std::alloc::Global;
@@ -147,5 +147,16 @@ fn gives_no_object_twice_in_one_transaction(rt: HostRuntime) -> Result<(), Fail>
     assert_eq!(rt; store.geometry().blocks(), BLOCKS);
     store.commit(&Blank)?;
     assert_eq!(rt; look(&mut store, DPtr::new(0, 5))?, (0, 1));
+    Ok(())
+}
+
+#[test]
+fn giving_up_ends_the_transaction(rt: HostRuntime) -> Result<(), Fail> {
+    let alloc = rt.alloc();
+    let mut store = PlainStore::<Anything>::new(alloc, Geometry::new(1, BLOCKS, 8, 2, 2)?)?;
+    store.begin(true)?;
+    store.write(DPtr::new(0, 0), Words::from_vec([1, 2].to_vec(alloc)?))?;
+    assert!(rt; give_up(&mut store) == PlainRefused::NoMemory);
+    assert_eq!(rt; look(&mut store, DPtr::new(0, 0))?, (0, 0));
     Ok(())
 }

@@ -1,8 +1,9 @@
 use Rattle.std.proofs.Common.{◌≡◌, ◌∙◌, sym, subst, rules, true, is_some}
 use Rattle.rma_layout.specs.Ranges.{IsInRange}
+use Rattle.holder_codec.proofs.Maps.{none_of, some_of}
 use Rattle.id_hash.specs.Buckets.{Finds}
 use Rattle.id_hash.specs.Following.{Follows}
-use Rattle.id_hash.proofs.Following.{first, looked, absent, found, added, removed, is_no_object, is_some_object}
+use Rattle.id_hash.proofs.Following.{first, looked, absent, found, added, removed}
 use Rattle.id_hash.proofs.tests.add_and_remove.Goals as goal
 
 pub find-requires-clause-leads : goal.find-requires-clause-leads
@@ -26,7 +27,7 @@ room-requires-clause-absent g c =
     let ranges : IsInRange s0.shape = subst IsInRange (c.geometry-geometry.ensures ∙ sym c.in_ok-begin.ensures.keeps.shape) c.keeps_ranges.ensures in
     let s1 = g.S.Store.state c.find.new.store in
     let f1 : Follows s0 s1 = record { shape = c.in_ok-find.ensures.keeps.shape; goes_on = c.in_ok-find.ensures.reaches.goes_on } in
-    let none = is_no_object c.in_ok-find.field-0 (sym c.is_some.ensures ∙ c.if-is_some.false) in
+    let none = none_of c.in_ok-find.field-0 (sym c.is_some.ensures ∙ c.if-is_some.false) in
     (found (Unit {0}) c.args.id s0 s1 f1 c.in_ok-find.ensures.looks).0 (subst (Finds c.args.id s0 s1) none c.in_ok-find.ensures.found)
 
 pub add-requires-clause-leads : goal.add-requires-clause-leads
@@ -47,7 +48,7 @@ add-requires-clause-absent g c =
     let ranges : IsInRange s0.shape = subst IsInRange (c.geometry-geometry.ensures ∙ sym c.in_ok-begin.ensures.keeps.shape) c.keeps_ranges.ensures in
     let s1 = g.S.Store.state c.find.new.store in
     let f1 : Follows s0 s1 = record { shape = c.in_ok-find.ensures.keeps.shape; goes_on = c.in_ok-find.ensures.reaches.goes_on } in
-    let none = is_no_object c.in_ok-find.field-0 (sym c.is_some.ensures ∙ c.if-is_some.false) in
+    let none = none_of c.in_ok-find.field-0 (sym c.is_some.ensures ∙ c.if-is_some.false) in
     let a1 = (found (Unit {0}) c.args.id s0 s1 f1 c.in_ok-find.ensures.looks).0 (subst (Finds c.args.id s0 s1) none c.in_ok-find.ensures.found) in
     let s2 = g.S.Store.state c.room.new.store in
     let f2 : Follows s1 s2 = record { shape = c.in_ok-has_room.ensures.keeps.shape; goes_on = c.in_ok-has_room.ensures.reaches.goes_on } in
@@ -61,7 +62,7 @@ find-requires-2-clause-leads g c =
     let s1 = g.S.Store.state c.find.new.store in
     let f1 : Follows s0 s1 = record { shape = c.in_ok-find.ensures.keeps.shape; goes_on = c.in_ok-find.ensures.reaches.goes_on } in
     let l1 = looked (Unit {0}) s0 s1 f1 c.in_ok-find.ensures.looks l0 in
-    let none = is_no_object c.in_ok-find.field-0 (sym c.is_some.ensures ∙ c.if-is_some.false) in
+    let none = none_of c.in_ok-find.field-0 (sym c.is_some.ensures ∙ c.if-is_some.false) in
     let a1 = (found (Unit {0}) c.args.id s0 s1 f1 c.in_ok-find.ensures.looks).0 (subst (Finds c.args.id s0 s1) none c.in_ok-find.ensures.found) in
     let s2 = g.S.Store.state c.room.new.store in
     let f2 : Follows s1 s2 = record { shape = c.in_ok-has_room.ensures.keeps.shape; goes_on = c.in_ok-has_room.ensures.reaches.goes_on } in
@@ -82,7 +83,7 @@ remove-requires-clause-leads g c =
     let s1 = g.S.Store.state c.find.new.store in
     let f1 : Follows s0 s1 = record { shape = c.in_ok-find.ensures.keeps.shape; goes_on = c.in_ok-find.ensures.reaches.goes_on } in
     let l1 = looked (Unit {0}) s0 s1 f1 c.in_ok-find.ensures.looks l0 in
-    let none = is_no_object c.in_ok-find.field-0 (sym c.is_some.ensures ∙ c.if-is_some.false) in
+    let none = none_of c.in_ok-find.field-0 (sym c.is_some.ensures ∙ c.if-is_some.false) in
     let a1 = (found (Unit {0}) c.args.id s0 s1 f1 c.in_ok-find.ensures.looks).0 (subst (Finds c.args.id s0 s1) none c.in_ok-find.ensures.found) in
     let s2 = g.S.Store.state c.room.new.store in
     let f2 : Follows s1 s2 = record { shape = c.in_ok-has_room.ensures.keeps.shape; goes_on = c.in_ok-has_room.ensures.reaches.goes_on } in
@@ -104,7 +105,7 @@ remove-requires-clause-present g c =
     let s4 = g.S.Store.state c.find-2.new.store in
     let f4 : Follows s3w s4 = record { shape = c.in_ok-found.ensures.keeps.shape; goes_on = c.in_ok-found.ensures.reaches.goes_on } in
     let there : is_some c.in_ok-found.found ≡ true = search rules in
-    let some = is_some_object c.in_ok-found.found there in
+    let some = some_of c.in_ok-found.found there in
     (found (Unit {0}) c.args.id s3w s4 f4 c.in_ok-found.ensures.looks).1 some.0 (subst (Finds c.args.id s3w s4) some.1 c.in_ok-found.ensures.found)
 
 pub find-requires-3-clause-leads : goal.find-requires-3-clause-leads
@@ -115,7 +116,7 @@ find-requires-3-clause-leads g c =
     let s1 = g.S.Store.state c.find.new.store in
     let f1 : Follows s0 s1 = record { shape = c.in_ok-find.ensures.keeps.shape; goes_on = c.in_ok-find.ensures.reaches.goes_on } in
     let l1 = looked (Unit {0}) s0 s1 f1 c.in_ok-find.ensures.looks l0 in
-    let none = is_no_object c.in_ok-find.field-0 (sym c.is_some.ensures ∙ c.if-is_some.false) in
+    let none = none_of c.in_ok-find.field-0 (sym c.is_some.ensures ∙ c.if-is_some.false) in
     let a1 = (found (Unit {0}) c.args.id s0 s1 f1 c.in_ok-find.ensures.looks).0 (subst (Finds c.args.id s0 s1) none c.in_ok-find.ensures.found) in
     let s2 = g.S.Store.state c.room.new.store in
     let f2 : Follows s1 s2 = record { shape = c.in_ok-has_room.ensures.keeps.shape; goes_on = c.in_ok-has_room.ensures.reaches.goes_on } in
