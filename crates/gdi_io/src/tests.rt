@@ -4,6 +4,8 @@ use crate::{
 };
 use gdi_kinds::{Bytes, FileList, NamedBytes, NoMemory, NumList};
 use std::alloc::Global;
+use std::cell::RefCell;
+use std::fmt::Display;
 use std::{fs, io};
 
 // Longer than one piece of `read_all`.
@@ -84,24 +86,103 @@ fn a_sink_keeps_what_it_takes(rt: HostRuntime) -> Result<(), NoMemory> {
 }
 
 #[test]
-fn a_real_file_is_read(rt: HostRuntime) -> io::Result<()> {
-    fs::write(&rt, "gdi_io_greeting.txt", "hello")?;
-    let mut shelf = FolderShelf::new(&rt);
-    let mut piece = [0u8; 3];
-    assert_eq!(rt; shelf.read(&mut piece), Ok(0), "before any select");
-    let read = read_all(rt.alloc(), &mut shelf, "gdi_io_greeting.txt");
-    fs::remove_file(&rt, "gdi_io_greeting.txt")?;
-    let Ok(bytes) = read else {
-        panic!(rt; "the file isn't read");
-    };
-    assert_eq!(rt; bytes.as_slice(), b"hello".as_slice());
-    let read = read_all(rt.alloc(), &mut shelf, "gdi_io_greeting.txt");
-    assert_eq!(rt; read.err(), Some(ReadRefused::Failed));
+fn a_sink_takes_many_pieces(rt: HostRuntime) -> Result<(), NoMemory> {
+    let alloc = rt.alloc();
+    let mut sink = MemSink::new(alloc, u64::MAX, NumList::new(alloc));
+    let mut want = Vec::new(alloc);
+    for piece in 0..1000u32 {
+        let bytes = piece.to_le_bytes();
+        assert_eq!(rt; write_all(&mut sink, &bytes), Ok(()), "piece {piece}");
+        want.extend_from_slice(&bytes)?;
+    }
+    assert_eq!(rt; sink.bytes(), want.as_slice());
     Ok(())
 }
 
 #[test]
-fn output_is_written(rt: HostRuntime) {
+fn real_files_are_read(rt: HostRuntime) -> io::Result<()> {
+    let files = [
+        ("gdi_io_greeting.txt", "hello"),
+        ("gdi_io_empty.txt", ""),
+        ("gdi_io_parting.txt", "good\nbye\n"),
+    ];
+    for (name, text) in files {
+        fs::write(&rt, name, text)?;
+    }
+    let mut shelf = FolderShelf::new(&rt);
+    let mut piece = [0u8; 3];
+    assert_eq!(rt; shelf.read(&mut piece), Ok(0), "before any select");
+    for (name, text) in files {
+        let Ok(bytes) = read_all(rt.alloc(), &mut shelf, name) else {
+            panic!(rt; "{name} isn't read");
+        };
+        assert_eq!(rt; bytes.as_slice(), text.as_bytes(), "at {name}");
+    }
+    for (name, _) in files {
+        fs::remove_file(&rt, name)?;
+        let read = read_all(rt.alloc(), &mut shelf, name);
+        assert_eq!(rt; read.err(), Some(ReadRefused::Failed), "{name} is gone");
+    }
+    Ok(())
+}
+
+// An output that keeps what is printed, takes three bytes at a time, and fails from a length on.
+#[derive(Drop)]
+struct Recorder {
+    printed: RefCell<Vec<u8>>,
+    limit: usize,
+}
+
+impl Print for Recorder {
+    fn print<D: Display + Drop>(&self, _value: D) -> io::Result<()> {
+        Err(io::Error::from(io::ErrorKind::Unsupported))
+    }
+
+    fn println<D: Display + Drop>(&self, _value: D) -> io::Result<()> {
+        Err(io::Error::from(io::ErrorKind::Unsupported))
+    }
+
+    fn write_all(&self, _bytes: &[u8]) -> io::Result<()> {
+        Err(io::Error::from(io::ErrorKind::Unsupported))
+    }
+
+    fn write_some(&self, bytes: &[u8]) -> io::Result<usize> {
+        let Ok(mut printed) = self.printed.try_borrow_mut() else {
+            return Err(io::Error::from(io::ErrorKind::Other));
+        };
+        if printed.len() >= self.limit {
+            return Err(io::Error::from(io::ErrorKind::BrokenPipe));
+        }
+        let count = bytes.len().min(3);
+        printed.extend_from_slice(&bytes[..count])?;
+        Ok(count)
+    }
+}
+
+#[test]
+fn output_is_written_as_it_is(rt: HostRuntime) -> Result<(), NoMemory> {
+    for (limit, text, answer, want) in [
+        (100, "hello\n", Ok(()), "hello\n"),
+        (100, "", Ok(()), ""),
+        (6, "two lines\nof text", Err(Failed), "two li"),
+    ] {
+        let output = Recorder {
+            printed: RefCell::new(Vec::new(rt.alloc())),
+            limit,
+        };
+        let mut sink = OutSink::new(&output);
+        assert_eq!(rt;
+            write_all(&mut sink, text.as_bytes()),
+            answer,
+            "at {text:?}"
+        );
+        assert_eq!(rt; output.printed.into_inner().as_slice(), want.as_bytes());
+    }
+    Ok(())
+}
+
+#[test]
+fn real_output_takes_bytes(rt: HostRuntime) {
     let mut sink = OutSink::new(&rt);
     assert_eq!(rt; write_all(&mut sink, b"hello\n"), Ok(()));
 }

@@ -67,6 +67,43 @@ fn scripts_run(rt: HostRuntime) -> Result<(), Fail> {
     Ok(())
 }
 
+// A script with as many lines `vertex` as are taken, and its output. Two thirds of the vertices share one bucket. Each is
+// made twice and looked for before and after.
+fn large_script(alloc: Global) -> Result<(String, String), Fail> {
+    let mut script = format!(in alloc; "section\n")?;
+    let mut output = String::new(alloc);
+    for n in 0..250u64 {
+        let id = if n % 3 == 0 { n } else { 256 * n };
+        let txn = 2 * n + 1;
+        writeln!(
+            script,
+            "txn\nhas {id}\nvertex {id}\nhas {id}\nvertex {id}\nend"
+        )?;
+        writeln!(output, "1.{txn} w {n}\n no\n done\n yes\n exists")?;
+        let txn = txn + 1;
+        let writes = n + 1;
+        writeln!(script, "txn\nhas {id}\nhas 1\nend")?;
+        writeln!(output, "1.{txn} r {writes}\n yes\n no")?;
+    }
+    writeln!(output, "writes 250")?;
+    Ok((script, output))
+}
+
+#[test]
+fn a_large_script_runs(rt: HostRuntime) -> Result<(), Fail> {
+    let (script, written) = large_script(rt.alloc())?;
+    let done = Status::Done;
+    run(
+        &rt,
+        rt.alloc(),
+        script.as_str(),
+        &[],
+        u64::MAX,
+        done,
+        written.as_str(),
+    )
+}
+
 #[test]
 fn faults_are_answered(rt: HostRuntime) -> Result<(), Fail> {
     let alloc = rt.alloc();

@@ -1,7 +1,11 @@
 -- What a status is to those who run the program: a fault with the number that the program ends with.
 use Rattle.std.specs.Prelude.{ℕ, Option, Some, None}
+use Rattle.std.specs.Option.{option_map_or}
+use Rattle.std.specs.declared.io.ErrorKind.{ErrorKind}
+use Rattle.std.specs.declared.io.ErrorKind.TheVariants as kind
 use Rattle.gdi_run.specs.declared.status.Status.{Status}
 use Rattle.gdi_run.specs.declared.status.Status.TheVariants as status
+use Rattle.gdi_run.specs.declared.status.UsageKind.TheVariants as usage
 use Rattle.gdi_shell.specs.declared.fault.Fault.{Fault}
 use Rattle.gdi_shell.specs.declared.fault.Fault.TheVariants.{Usage, Read, TooLong, BadLoad, BadScript, LoadFull, Write, Illegal, NoMemory, BadOutput}
 
@@ -30,3 +34,12 @@ exit_number Write = 8
 exit_number (Illegal clause section txn) = 9
 exit_number NoMemory = 10
 exit_number (BadOutput line) = 11
+
+-- the number that the program ends with after a status: 0 where all was done
+abbrev pub number_of : Status → ℕ
+number_of status = option_map_or exit_number (fault_of status) 0
+
+-- what it is that the words of the command line can't be had: want of memory, or a faulty command line
+abbrev pub status_of : ErrorKind → Status
+status_of kind.OutOfMemory = status.NoMemory
+status_of _ = status.Usage usage.Words

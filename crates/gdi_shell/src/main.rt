@@ -2,57 +2,37 @@
 //! status that this answers.
 #![tactic(auto)]
 
+mod ending;
 mod fault;
 #[cfg(test)]
+mod machine;
+#[cfg(test)]
 mod tests;
+mod words;
 
-use fault::Fault;
+use ending::tell;
 use gdi_io::{FolderShelf, OutSink};
-use gdi_kinds::{CommandWord, CommandWordList, NoMemory};
-use gdi_run::{Status, UsageKind, gdi_main};
+use gdi_run::{Status, gdi_main};
+use std::alloc::Global;
 use std::process::ExitCode;
-use std::{env, io};
+use std::rt::{Env, Files};
+use words::words_of;
 
 fn main(rt: HostRuntime) -> ExitCode {
-    let status = run(&rt);
-    match Fault::of(status) {
-        None => ExitCode::SUCCESS,
-        Some(fault) => {
-            let _ = eprintln!(rt; "{fault}");
-            ExitCode::from(fault.exit_number())
-        }
-    }
+    ExitCode::from(program(&rt, &rt))
 }
 
-fn run(rt: &HostRuntime) -> Status {
+// Does what the words ask for, tells a fault as one line among the errors, and answers the number to end with.
+fn program<R: Env + Alloc<A = Global> + Print + Eprint, F: Files>(rt: &R, files: &F) -> u8 {
+    tell(rt, run(rt, files))
+}
+
+fn run<R: Env + Alloc<A = Global> + Print, F: Files>(rt: &R, files: &F) -> Status {
     let words = match words_of(rt) {
         Ok(words) => words,
         Err(status) => return status,
     };
-    let mut shelf = FolderShelf::new(rt);
+    let mut shelf = FolderShelf::new(files);
     let mut out = OutSink::new(rt);
     gdi_main(rt.alloc(), &words, &mut shelf, &mut out)
-}
-
-// The words after the program's name. Words that aren't Unicode are a faulty command line.
-fn words_of(rt: &HostRuntime) -> Result<CommandWordList, Status> {
-    let args = match env::args(rt) {
-        Ok(args) => args,
-        Err(error) => return Err(status_of(error)),
-    };
-    let mut words = CommandWordList::new(rt.alloc());
-    for arg in args.skip(1) {
-        let pushed = CommandWord::of(rt.alloc(), arg.as_str()).and_then(|word| words.push(word));
-        if let Err(NoMemory) = pushed {
-            return Err(Status::NoMemory);
-        }
-    }
-    Ok(words)
-}
-
-fn status_of(error: io::Error) -> Status {
-    match error.kind() {
-        io::ErrorKind::OutOfMemory => Status::NoMemory,
-        _ => Status::Usage(UsageKind::Words),
-    }
 }

@@ -1,6 +1,84 @@
 use crate::fault::Fault;
+use crate::machine::Machine;
+use crate::program;
 use gdi_run::{FileKind, Status, UsageKind};
+use std::fs;
 use std::test::Fail;
+
+// The words after the program's name, the number that it ends with, its output and its errors.
+const RUNS: [(&[&str], u8, &str, &str); 8] = [
+    (
+        &["run", "gdi_shell_good.gdi"],
+        0,
+        "1.1 w 0\n done\n yes\nwrites 1\n",
+        "",
+    ),
+    (&["run", "gdi_shell_empty.gdi"], 0, "writes 0\n", ""),
+    (
+        &[],
+        2,
+        "",
+        "gdi_shell: usage: run, check, report or drill\n",
+    ),
+    (
+        &["walk", "gdi_shell_good.gdi"],
+        2,
+        "",
+        "gdi_shell: usage: run, check, report or drill\n",
+    ),
+    (
+        &["run"],
+        2,
+        "",
+        "gdi_shell: usage: run, check, report or drill\n",
+    ),
+    (
+        &["run", "-s"],
+        2,
+        "",
+        "gdi_shell: usage: run, check, report or drill\n",
+    ),
+    (
+        &["run", "absent.gdi"],
+        3,
+        "",
+        "gdi_shell: cannot read script\n",
+    ),
+    (
+        &["run", "gdi_shell_bad.gdi"],
+        6,
+        "",
+        "gdi_shell: script line 0 fault 0\n",
+    ),
+];
+
+#[test]
+fn the_program_runs(rt: HostRuntime) -> Result<(), Fail> {
+    fs::write(
+        &rt,
+        "gdi_shell_good.gdi",
+        "section\ntxn\nvertex 7\nhas 7\nend\n",
+    )?;
+    fs::write(&rt, "gdi_shell_empty.gdi", "")?;
+    fs::write(&rt, "gdi_shell_bad.gdi", "section\ntxn\nvertex 01\nend\n")?;
+    for (words, number, output, errors) in RUNS {
+        let mut started = vec![in rt.alloc(); "gdi_shell"]?;
+        started.extend_from_slice(words)?;
+        let machine = Machine::started_with(rt.alloc(), started.as_slice());
+        assert_eq!(rt; program(&machine, &rt), number, "{words:?}");
+        let printed = machine.printed();
+        assert_eq!(rt; printed.0.as_slice(), output.as_bytes(), "{words:?}");
+        assert_eq!(rt; printed.1.as_str(), errors, "{words:?}");
+    }
+    for name in [
+        "gdi_shell_good.gdi",
+        "gdi_shell_empty.gdi",
+        "gdi_shell_bad.gdi",
+    ] {
+        fs::remove_file(&rt, name)?;
+    }
+    Ok(())
+}
 
 #[test]
 fn faults_have_their_lines(rt: HostRuntime) -> Result<(), Fail> {
