@@ -164,8 +164,8 @@ fn copies_of_files_and_words(rt: HostRuntime) -> Result<(), Fail> {
         bytes: Bytes::from_vec(b"section".to_vec(alloc)?),
     };
     let copied = file.copy(alloc)?;
-    assert_eq!(rt; copied.name.as_slice(), b"first.gdi");
-    assert_eq!(rt; copied.bytes.as_slice(), b"section");
+    assert_eq!(rt; copied.name.as_slice(), b"first.gdi".as_slice());
+    assert_eq!(rt; copied.bytes.as_slice(), b"section".as_slice());
     let word = CommandWord::of(alloc, "--blocks")?;
     assert_eq!(rt; word.copy(alloc)?.text(), "--blocks");
     let numbers = U32List::from_vec([1, 2].to_vec(alloc)?);
