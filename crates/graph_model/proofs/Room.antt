@@ -1,5 +1,5 @@
 -- Where there is room: how many blocks bare graphs use and need at most.
-use Rattle.std.proofs.Common.{◌≡◌, ℕ, suc, ◌+◌, ◌*◌, ◌-◌, ◌≤◌, Bool, true, false, cond, ◌||◌, not, List, [], ◌∷◌, ◌++◌, map, length, get_or, if◌then◌else◌, Option, Some, None, refl, ap, sym, subst, ◌∙◌, arith, eqb, ltb}
+use Rattle.std.proofs.Common.{◌≡◌, ℕ, suc, ◌+◌, ◌*◌, ◌-◌, ◌≤◌, Bool, true, false, cond, ◌||◌, not, List, [], ◌∷◌, ◌++◌, map, length, get_or, if◌then◌else◌, Option, Some, None, refl, ap, subst, ◌∙◌, arith, eqb, ltb}
 use Rattle.std.specs.Prelude as prelude
 use Rattle.std.specs.List.{AllByRecursion, count_by, sum_by, filter, range_with_len, list_all}
 use Rattle.std.specs.Option.{option_map_or, option_to_list, option_or}
@@ -21,15 +21,12 @@ use Rattle.gdi_kinds.specs.Calls.{is_writing}
 use Rattle.graph_model.specs.Capacity.{Object, is_object, words_of_reserved, blocks_of_object, objects_on, blocks_used_on, growth_of, graphs_along, make_of, makes, blocks_needed_on, short_at_make, short_at_commit, full_rank}
 use Rattle.graph_model.specs.Capacity.Object.{Reserved, OfVertex}
 use Rattle.graph_model.specs.Bare.{bare_graph, IsBareCall, is_vertex_call}
+use Rattle.graph_model.proofs.Sums.{sum_by-map}
 use Rattle.graph_model.proofs.Sets.{length-filter-le}
 use Rattle.graph_model.proofs.Bare.{ids_after_call, ids_after_calls, graph_after_call-bare, graph_after_calls-bare, length-after_calls, words_of_bucket-bare, is_in_bucket}
 
 sum_by-bounded : {X : Type 0} (f : X → ℕ) (m : ℕ) (xs : List X) → ((x : X) → f x ≤ m) → sum_by f xs ≤ length xs * m
 sum_by-bounded f m xs each = sum_by-le f m xs (λ k d within. each (get_or xs k d))
-
-sum_by-map : {X Y : Type 0} (f : Y → ℕ) (g : X → Y) (xs : List X) → sum_by f (map g xs) ≡ sum_by (λ x. f (g x)) xs
-sum_by-map f g [] = refl
-sum_by-map f g (x ∷ xs) = sum_by-cons f (g x) (map g xs) ∙ ap (λ n. f (g x) + n) (sum_by-map f g xs) ∙ sym (sum_by-cons (λ z. f (g z)) x xs)
 
 find-none : {X : Type 0} (p : X → Bool) (xs : List X) → ((x : X) → p x ≡ false) → prelude.find p xs ≡ None
 find-none p [] none = refl
