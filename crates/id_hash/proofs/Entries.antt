@@ -2,10 +2,13 @@
 use Rattle.std.proofs.Common.{◌≡◌, ℕ, Bool, true, false, not, cond, eqb, List, [], ◌∷◌, map, length, Option, Some, None, refl, sym, ap, subst, ◌∙◌, arith, eq-eqb, eqb-true}
 use Rattle.std.specs.List.{filter, count_by}
 use Rattle.std.specs.Option.{option_map}
-use Rattle.std.specs.Ordering.{nat_cmp, is_lt}
+use Rattle.std.specs.Ordering.{nat_cmp, eq_by_cmp}
+use Rattle.std.specs.Cmp.{nat_cmp_total}
+use Rattle.object_words.proofs.Places.{to_T}
+use Rattle.graph_model.proofs.Entries.{IsMap-put, IsMap-filter}
 use Rattle.std.specs.declared.cmp.Ordering.TheVariants.{Less, Equal, Greater}
 use Rattle.std.specs.FinMap.{nat_cmp-IsAntisymmetric}
-use Rattle.std.specs.FinMap.Entries.{by_order, below_all, is_sorted}
+use Rattle.std.specs.FinMap.Entries.{by_order, find-where_key, find-put, same_entries}
 use Rattle.std.proofs.lemmas.Bool.{and_parts, and_from}
 use Rattle.std.proofs.lemmas.Bool.Decides.{nat_tests}
 use Rattle.std.proofs.lemmas.List.{length-map}
@@ -17,7 +20,7 @@ use Rattle.graph_model.proofs.Sets.{is_eq-nat_cmp}
 use Rattle.holder_codec.specs.declared.bucket_entry.BucketEntry.{BucketEntry}
 use Rattle.holder_codec.specs.Represents.{VertexObjects, entries_of}
 use Rattle.holder_codec.proofs.Leading.{find-entries}
-use Rattle.id_hash.specs.Entries.{entry_of, with_entry, without_entry}
+use Rattle.id_hash.specs.Entries.{entry_for, with_entry, without_entry}
 
 abbrev made : ℕ × Place → BucketEntry
 made entry = record { id = entry.0; at = entry.1 }
@@ -28,14 +31,23 @@ object entry = entry.at
 abbrev is_of_bucket : Shape → Place → ℕ × Place → Bool
 is_of_bucket shape place entry = same_place (bucket_of shape entry.0) place
 
+same_map : (es fs : VertexObjects) → IsMap nat_cmp es → IsMap nat_cmp fs → ((q : ℕ) → at es q ≡ at fs q) → es ≡ fs
+same_map es fs a b = same_entries nat_cmp nat_cmp_total nat_cmp-IsAntisymmetric es fs (to_T _ a) (to_T _ b)
+
+at-put : (q id : ℕ) (place : Place) (es : VertexObjects) → at (with_at es id place) q ≡ cond (eq_by_cmp nat_cmp q id) (Some place) (at es q)
+at-put q id place es = find-put nat_cmp nat_cmp_total q id place es
+
+tied : (a b : ℕ) → eq_by_cmp nat_cmp a b ≡ true → a ≡ b
+tied a b is = grind (arith, nat_tests)
+
 -- ---- entries made of a map's
 
-entry_of-made : (id : ℕ) (vertices : VertexObjects) → option_map object (entry_of (map made vertices) id) ≡ at vertices id
-entry_of-made id [] = refl
-entry_of-made id (e ∷ es) =
-    elim (eqb e.0 id) as (λ b. option_map object (cond b (Some (made e)) (entry_of (map made es) id)) ≡ cond b (Some e.1) (at es id)) [
+entry_for-made : (id : ℕ) (vertices : VertexObjects) → option_map object (entry_for (map made vertices) id) ≡ at vertices id
+entry_for-made id [] = refl
+entry_for-made id (e ∷ es) =
+    elim (eqb e.0 id) as (λ b. option_map object (cond b (Some (made e)) (entry_for (map made es) id)) ≡ cond b (Some e.1) (at es id)) [
       | true ↦ refl
-      | false ↦ entry_of-made id es
+      | false ↦ entry_for-made id es
     ] ∙ ap (λ b. cond b (Some e.1) (at es id)) (sym (is_eq-nat_cmp id e.0))
 
 with_entry-made : (id : ℕ) (place : Place) (vertices : VertexObjects) → map made (with_at vertices id place) ≡ with_entry (made (id, place)) (map made vertices)
@@ -57,85 +69,36 @@ without_entry-made id (e ∷ es) =
 
 -- ---- the entries of a map whose keys pass a test
 
-filter-filter : {X : Type 0} (p q : X → Bool) (xs : List X) → filter p (filter q xs) ≡ filter q (filter p xs)
-filter-filter p q [] = refl
-filter-filter p q (x ∷ xs) =
-    let rest = filter-filter p q xs in
-    elim (p x) as (λ a. p x ≡ a → filter p (cond (q x) (x ∷ filter q xs) (filter q xs)) ≡ filter q (cond a (x ∷ filter p xs) (filter p xs))) [
-      | true ↦ λ a. elim (q x) as (λ b. filter p (cond b (x ∷ filter q xs) (filter q xs)) ≡ cond b (x ∷ filter q (filter p xs)) (filter q (filter p xs))) [
-        | true ↦ ap (λ c. cond c (x ∷ filter p (filter q xs)) (filter p (filter q xs))) a ∙ ap (λ others. x ∷ others) rest
-        | false ↦ rest
-      ]
-      | false ↦ λ a. elim (q x) as (λ b. filter p (cond b (x ∷ filter q xs) (filter q xs)) ≡ filter q (filter p xs)) [
-        | true ↦ ap (λ c. cond c (x ∷ filter p (filter q xs)) (filter p (filter q xs))) a ∙ rest
-        | false ↦ rest
-      ]
-    ] refl
-
--- what is below all stands first
-put_below : (id : ℕ) (place : Place) (es : VertexObjects) → below_all nat_cmp id es ≡ true → with_at es id place ≡ (id, place) ∷ es
-put_below id place [] below = refl
-put_below id place (e ∷ es) below =
-    elim (nat_cmp id e.0) as (λ o. is_lt o ≡ true → by_order o ((id, place) ∷ e ∷ es) ((e.0, place) ∷ es) (e ∷ with_at es id place) ≡ (id, place) ∷ e ∷ es) [
-      | Less ↦ λ _. refl
-      | Equal ↦ λ is. absurd cc
-      | Greater ↦ λ is. absurd cc
-    ] (and_parts (is_lt (nat_cmp id e.0)) (below_all nat_cmp id es) below).0
-
-below_next : (id : ℕ) (e : ℕ × Place) (es : VertexObjects) → nat_cmp id e.0 ≡ Less → below_all nat_cmp e.0 es ≡ true → below_all nat_cmp id es ≡ true
-below_next id e [] less below = refl
-below_next id e (f ∷ es) less below =
-    let parts = and_parts (is_lt (nat_cmp e.0 f.0)) (below_all nat_cmp e.0 es) below in
-    let first : is_lt (nat_cmp id f.0) ≡ true = grind (arith, nat_tests) in
-    and_from _ _ first (below_next id e es less parts.1)
-
 module _ (p : ℕ → Bool) where
   abbrev passes : ℕ × Place → Bool
   passes entry = p entry.0
 
-  below_filter : (id : ℕ) (es : VertexObjects) → below_all nat_cmp id es ≡ true → below_all nat_cmp id (filter passes es) ≡ true
-  below_filter id [] below = refl
-  below_filter id (e ∷ es) below =
-      let parts = and_parts (is_lt (nat_cmp id e.0)) (below_all nat_cmp id es) below in
-      let rest = below_filter id es parts.1 in
-      elim (p e.0) as (λ b. below_all nat_cmp id (cond b (e ∷ filter passes es) (filter passes es)) ≡ true) [
-        | true ↦ and_from _ _ parts.0 rest
-        | false ↦ rest
-      ]
+  find-passes : (q : ℕ) (es : VertexObjects) → at (filter passes es) q ≡ cond (p q) (at es q) None
+  find-passes q es = find-where_key nat_cmp p q (λ other tied. ap p (sym (nat_cmp-IsAntisymmetric q other tied))) es
+
+  same_passes : (es fs : VertexObjects) → IsMap nat_cmp es → IsMap nat_cmp fs → ((q : ℕ) → cond (p q) (at es q) None ≡ cond (p q) (at fs q) None) → filter passes es ≡ filter passes fs
+  same_passes es fs a b same =
+      same_map _ _ (IsMap-filter nat_cmp passes es a) (IsMap-filter nat_cmp passes fs b) (λ q. find-passes q es ∙ (same q ∙ sym (find-passes q fs)))
 
   -- a key that passes comes to those that pass
   filter-put : (id : ℕ) (place : Place) (es : VertexObjects) → IsMap nat_cmp es → p id ≡ true → filter passes (with_at es id place) ≡ with_at (filter passes es) id place
-  filter-put id place [] rising kept = ap (λ b. cond b ((id, place) ∷ []) []) kept
-  filter-put id place (e ∷ es) rising kept =
-      let parts = and_parts (below_all nat_cmp e.0 es) (is_sorted nat_cmp es) rising in
-      let rest = filter-put id place es parts.1 kept in
-      elim (nat_cmp id e.0) as (λ o. nat_cmp id e.0 ≡ o → filter passes (by_order o ((id, place) ∷ e ∷ es) ((e.0, place) ∷ es) (e ∷ with_at es id place)) ≡ with_at (filter passes (e ∷ es)) id place) [
-        | Less ↦ λ less.
-            let below : below_all nat_cmp id (e ∷ es) ≡ true = and_from _ _ (ap is_lt less) (below_next id e es less parts.0) in
-            ap (λ b. cond b ((id, place) ∷ filter passes (e ∷ es)) (filter passes (e ∷ es))) kept ∙ sym (put_below id place (filter passes (e ∷ es)) (below_filter id (e ∷ es) below))
-        | Equal ↦ λ tied.
-            let here : p e.0 ≡ true = subst (λ k. p k ≡ true) (nat_cmp-IsAntisymmetric id e.0 tied) kept in
-            ap (λ b. cond b ((e.0, place) ∷ filter passes es) (filter passes es)) here
-            ∙ ap (λ o. by_order o ((id, place) ∷ e ∷ filter passes es) ((e.0, place) ∷ filter passes es) (e ∷ with_at (filter passes es) id place)) (sym tied)
-            ∙ ap (λ b. with_at (cond b (e ∷ filter passes es) (filter passes es)) id place) (sym here)
-        | Greater ↦ λ greater.
-            elim (p e.0) as (λ b. cond b (e ∷ filter passes (with_at es id place)) (filter passes (with_at es id place)) ≡ with_at (cond b (e ∷ filter passes es) (filter passes es)) id place) [
-              | true ↦ ap (λ others. e ∷ others) rest ∙ ap (λ o. by_order o ((id, place) ∷ e ∷ filter passes es) ((e.0, place) ∷ filter passes es) (e ∷ with_at (filter passes es) id place)) (sym greater)
-              | false ↦ rest
-            ]
-      ] refl
+  filter-put id place es rising kept =
+      same_map _ _ (IsMap-filter nat_cmp passes _ (IsMap-put nat_cmp nat_cmp_total id place es rising)) (IsMap-put nat_cmp nat_cmp_total id place _ (IsMap-filter nat_cmp passes es rising)) (λ q.
+      find-passes q (with_at es id place) ∙ (ap (λ o. cond (p q) o None) (at-put q id place es) ∙ (cases q (eq_by_cmp nat_cmp q id) refl
+      ∙ (ap (cond (eq_by_cmp nat_cmp q id) (Some place)) (sym (find-passes q es)) ∙ sym (at-put q id place (filter passes es))))))
+    where
+      cases : (q : ℕ) (tie : Bool) → eq_by_cmp nat_cmp q id ≡ tie → cond (p q) (cond tie (Some place) (at es q)) None ≡ cond tie (Some place) (cond (p q) (at es q) None)
+      cases q true tie = ap (λ b. cond b (Some place) None) (ap p (tied q id tie) ∙ kept)
+      cases q false tie = refl
 
   -- a key that fails the test changes nothing of what passes
-  filter-put_other : (id : ℕ) (place : Place) (es : VertexObjects) → p id ≡ false → filter passes (with_at es id place) ≡ filter passes es
-  filter-put_other id place [] dropped = ap (λ b. cond b ((id, place) ∷ []) []) dropped
-  filter-put_other id place (e ∷ es) dropped =
-      elim (nat_cmp id e.0) as (λ o. nat_cmp id e.0 ≡ o → filter passes (by_order o ((id, place) ∷ e ∷ es) ((e.0, place) ∷ es) (e ∷ with_at es id place)) ≡ filter passes (e ∷ es)) [
-        | Less ↦ λ _. ap (λ b. cond b ((id, place) ∷ filter passes (e ∷ es)) (filter passes (e ∷ es))) dropped
-        | Equal ↦ λ tied.
-            let here : p e.0 ≡ false = subst (λ k. p k ≡ false) (nat_cmp-IsAntisymmetric id e.0 tied) dropped in
-            ap (λ b. cond b ((e.0, place) ∷ filter passes es) (filter passes es)) here ∙ ap (λ b. cond b (e ∷ filter passes es) (filter passes es)) (sym here)
-        | Greater ↦ λ _. ap (λ others. cond (p e.0) (e ∷ others) others) (filter-put_other id place es dropped)
-      ] refl
+  filter-put_other : (id : ℕ) (place : Place) (es : VertexObjects) → IsMap nat_cmp es → p id ≡ false → filter passes (with_at es id place) ≡ filter passes es
+  filter-put_other id place es rising dropped =
+      same_passes _ _ (IsMap-put nat_cmp nat_cmp_total id place es rising) rising (λ q. ap (λ o. cond (p q) o None) (at-put q id place es) ∙ cases q (eq_by_cmp nat_cmp q id) refl)
+    where
+      cases : (q : ℕ) (tie : Bool) → eq_by_cmp nat_cmp q id ≡ tie → cond (p q) (cond tie (Some place) (at es q)) None ≡ cond (p q) (at es q) None
+      cases q true tie = let no = ap p (tied q id tie) ∙ dropped in ap (λ b. cond b (Some place) None) no ∙ sym (ap (λ b. cond b (at es q) None) no)
+      cases q false tie = refl
 
   filter-without_other : (id : ℕ) (es : VertexObjects) → p id ≡ false → filter passes (without es id) ≡ filter passes es
   filter-without_other id [] dropped = refl
@@ -147,6 +110,10 @@ module _ (p : ℕ → Bool) where
             rest ∙ ap (λ b. cond b (e ∷ filter passes es) (filter passes es)) (sym here)
         | false ↦ λ _. ap (λ others. cond (p e.0) (e ∷ others) others) rest
       ] refl
+
+filter-filter : {X : Type 0} (p q : X → Bool) (xs : List X) → filter p (filter q xs) ≡ filter q (filter p xs)
+filter-filter p q [] = refl
+filter-filter p q (x ∷ xs) = grind (arith, filter-filter p q xs)
 
 -- ---- a bucket's entries
 
@@ -169,14 +136,14 @@ none_from_map (Some entry) none = absurd cc
 none_from_map None none = refl
 
 -- the entry of an identifier has the object to which it leads
-pub entry_of-entries : (shape : Shape) (vertices : VertexObjects) (id : ℕ)
-    → option_map (λ entry. entry.at) (entry_of (entries_of shape vertices (bucket_of shape id)) id) ≡ at vertices id
-entry_of-entries shape vertices id =
-    entry_of-made id (filter (is_of_bucket shape (bucket_of shape id)) vertices) ∙ sym (find-entries shape vertices id)
+pub entry_for-entries : (shape : Shape) (vertices : VertexObjects) (id : ℕ)
+    → option_map (λ entry. entry.at) (entry_for (entries_of shape vertices (bucket_of shape id)) id) ≡ at vertices id
+entry_for-entries shape vertices id =
+    entry_for-made id (filter (is_of_bucket shape (bucket_of shape id)) vertices) ∙ sym (find-entries shape vertices id)
 
-pub none-entries : (shape : Shape) (vertices : VertexObjects) (id : ℕ) → at vertices id ≡ None → entry_of (entries_of shape vertices (bucket_of shape id)) id ≡ None
+pub none-entries : (shape : Shape) (vertices : VertexObjects) (id : ℕ) → at vertices id ≡ None → entry_for (entries_of shape vertices (bucket_of shape id)) id ≡ None
 none-entries shape vertices id none =
-    none_from_map (entry_of (entries_of shape vertices (bucket_of shape id)) id) (entry_of-entries shape vertices id ∙ none)
+    none_from_map (entry_for (entries_of shape vertices (bucket_of shape id)) id) (entry_for-entries shape vertices id ∙ none)
 
 pub entries-with_at : (shape : Shape) (vertices : VertexObjects) (id : ℕ) (object : Place) → IsMap nat_cmp vertices → at vertices id ≡ None
     → entries_of shape (with_at vertices id object) (bucket_of shape id) ≡ with_entry (record { id = id; at = object }) (entries_of shape vertices (bucket_of shape id))
@@ -190,10 +157,10 @@ entries-without shape vertices id =
     let place = bucket_of shape id in
     ap (map made) (filter-filter (is_of_bucket shape place) (λ entry. not (eqb entry.0 id)) vertices) ∙ without_entry-made id (filter (is_of_bucket shape place) vertices)
 
-pub other_entries-with_at : (shape : Shape) (vertices : VertexObjects) (id : ℕ) (object place : Place) → ¬ (place ≡ bucket_of shape id) → at vertices id ≡ None
+pub other_entries-with_at : (shape : Shape) (vertices : VertexObjects) (id : ℕ) (object place : Place) → ¬ (place ≡ bucket_of shape id) → IsMap nat_cmp vertices
     → entries_of shape (with_at vertices id object) place ≡ entries_of shape vertices place
-other_entries-with_at shape vertices id object place apart _ =
-    ap (map made) (filter-put_other (λ k. same_place (bucket_of shape k) place) id object vertices (is_of_other_bucket (bucket_of shape id) place apart))
+other_entries-with_at shape vertices id object place apart rising =
+    ap (map made) (filter-put_other (λ k. same_place (bucket_of shape k) place) id object vertices rising (is_of_other_bucket (bucket_of shape id) place apart))
 
 pub other_entries-without : (shape : Shape) (vertices : VertexObjects) (id : ℕ) (place : Place) → ¬ (place ≡ bucket_of shape id)
     → entries_of shape (without vertices id) place ≡ entries_of shape vertices place

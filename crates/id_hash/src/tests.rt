@@ -6,7 +6,7 @@ ghost use Rattle.object_store.specs.declared.phase.Phase.TheVariants.{Idle};
 ghost use Rattle.holder_codec.specs.Represents.{Represents};
 ghost use Rattle.holder_codec.specs.Keeping.{keeps_by_steps};
 
-use crate::{add, calls_may_follow, find, remove, room};
+use crate::{add, find, remove, room};
 use holder_codec::KeepsGraph;
 use object_store::{PlainStore, Store};
 use object_words::Law;
@@ -77,7 +77,6 @@ fn add_and_remove<S: Store<Keeping>>(
 
 #[test]
 fn calls(rt: HostRuntime) -> Result<(), Fail> {
-    calls_may_follow::<Keeping>();
     let at = DPtr::new(1, 81);
     let mut store = PlainStore::<Keeping>::new(rt.alloc(), Geometry::standard())?;
     let Ok(findings) = add_and_remove(rt.alloc(), &mut store, 5, at) else {

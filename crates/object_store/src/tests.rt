@@ -102,7 +102,7 @@ const BLOCKS: u64 = 8;
 fn is_refused_where_none_is_left(rt: HostRuntime) -> Result<(), Fail> {
     let alloc = rt.alloc();
     let mut store = PlainStore::<Anything>::new(alloc, Geometry::new(1, BLOCKS, 8, 2, 2)?)?;
-    store.is_plain();
+    store.stands_alone();
     let first = make(&mut store, alloc, 0, 1)?;
     assert_eq!(rt; (first.rank(), first.block()), (0, 5));
     make(&mut store, alloc, 0, 2)?;
@@ -121,7 +121,7 @@ fn is_refused_where_none_is_left(rt: HostRuntime) -> Result<(), Fail> {
 fn aborts_leave_nothing(rt: HostRuntime) -> Result<(), Fail> {
     let alloc = rt.alloc();
     let mut store = PlainStore::<Anything>::new(alloc, Geometry::new(1, BLOCKS, 8, 2, 2)?)?;
-    store.is_plain();
+    store.stands_alone();
     let metadata = DPtr::new(0, 0);
     store.begin(true)?;
     store.write(metadata, Words::from_vec([1, 2].to_vec(alloc)?))?;
@@ -138,7 +138,7 @@ fn aborts_leave_nothing(rt: HostRuntime) -> Result<(), Fail> {
 fn gives_no_object_twice_in_one_transaction(rt: HostRuntime) -> Result<(), Fail> {
     let alloc = rt.alloc();
     let mut store = PlainStore::<Anything>::new(alloc, Geometry::new(1, BLOCKS, 8, 2, 2)?)?;
-    store.is_plain();
+    store.stands_alone();
     store.begin(true)?;
     let first = store.fresh(0)?;
     store.write(first, Words::new(alloc))?;
