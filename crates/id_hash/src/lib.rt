@@ -3,6 +3,7 @@
 
 mod bucket;
 mod calls;
+mod laws;
 #[cfg(test)]
 mod tests;
 
@@ -10,3 +11,4 @@ pub use calls::add::add;
 pub use calls::find::find;
 pub use calls::remove::remove;
 pub use calls::room::room;
+pub use laws::{knowledge_stays, some_vertices_are_all};

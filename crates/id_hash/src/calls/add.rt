@@ -12,7 +12,7 @@ use std::alloc::Global;
 
 /// Lets the bucket of an absent identifier lead to the object of its vertex. It answers false, and changes nothing,
 /// exactly where the bucket would have more words than an object may have.
-#[tactic(auto, using(crate::proofs::Knows::lacks_leads))]
+#[tactic(auto, using(crate::proofs::Knows::leads_to_leads))]
 pub fn add<L: KeepsGraph, S: Store<L>>(
     alloc: Global,
     store: &mut S,

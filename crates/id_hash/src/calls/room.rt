@@ -11,7 +11,7 @@ use std::alloc::Global;
 
 /// Whether the bucket of an absent identifier takes it: exactly where `add` would. It is asked before the object of a
 /// vertex is made.
-#[tactic(auto, using(crate::proofs::Knows::lacks_leads))]
+#[tactic(auto, using(crate::proofs::Knows::leads_to_leads))]
 pub fn room<L: KeepsGraph, S: Store<L>>(
     alloc: Global,
     store: &mut S,

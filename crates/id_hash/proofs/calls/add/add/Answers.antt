@@ -3,13 +3,12 @@ use Rattle.rma_layout.specs.Placement.{FitsOneWord}
 use Rattle.graph_model.specs.Sizes.{is_too_large}
 use Rattle.object_store.proofs.Working.{if_ok, ok_and}
 use Rattle.object_store.proofs.Works.{went-then, went-fell}
-use Rattle.id_hash.proofs.Knows.{lacks_leads}
 use Rattle.id_hash.proofs.Places.{block_fits}
 use Rattle.id_hash.proofs.InBuckets.{few_with, few_made, absent_now, adds_nothing, adds}
 use Rattle.id_hash.proofs.calls.add.add.Goals as goal
 
 pub returns-then-not-has_room-clause-added : goal.returns-then-not-has_room-clause-added
-returns-then-not-has_room-clause-added g c = adds_nothing c.in_ok-bucket.ensures.found c.args.at (search rules) (lacks_leads c.requires.absent)
+returns-then-not-has_room-clause-added g c = adds_nothing c.in_ok-bucket.ensures.found c.args.at (search rules) c.requires.absent
 
 pub bucket_with-made-requires-clause-absent : goal.bucket_with-made-requires-clause-absent
 bucket_with-made-requires-clause-absent g c = absent_now c.in_ok-bucket.ensures.found c.requires.absent
@@ -31,4 +30,4 @@ returns-clause-added g c =
     let fits : FitsOneWord c.args.at = (omega arith, omega (arith, block_fits)) in
     let wrote = c.in_ok-write_bucket.ensures in
     ok_and c.bucket_with-made.result wrote.wrote c.bucket_with-made.ensures.made (λ made put is.
-    adds c.in_ok-bucket.ensures.found made put c.args.at c.ranges.id.fits fits room is (wrote.works.went.reaches.stays) c.requires.absent)
+    adds c.in_ok-bucket.ensures.found made put wrote.works.went.reaches.stays c.args.at c.ranges.id.fits fits room is c.requires.absent)

@@ -18,4 +18,4 @@ pub returns-clause-removed : goal.returns-clause-removed
 returns-clause-removed g c =
     let wrote = c.in_ok-write_bucket.ensures in
     ok_and c.bucket_without-made.result wrote.wrote c.bucket_without-made.ensures.made (λ made put is.
-    removes c.in_ok-bucket.ensures.found made put is (wrote.works.went.reaches.stays) c.requires.present)
+    removes c.in_ok-bucket.ensures.found made put wrote.works.went.reaches.stays is c.requires.present)
