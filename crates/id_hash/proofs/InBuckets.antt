@@ -35,8 +35,9 @@ use Rattle.held_objects.specs.Knows.{Knows}
 use Rattle.held_objects.specs.Held.{IsSpelled, FindsHolder}
 use Rattle.held_objects.proofs.Knows.{before, knows_after, still}
 use Rattle.id_hash.proofs.Knows.{leads_to_leads, leads_to_has, still_known}
-use Rattle.id_hash.specs.Entries.{entry_for, with_entry, without_entry}
+use Rattle.id_hash.specs.Entries.{id_of, entry_for, with_entry, without_entry}
 use Rattle.object_store.proofs.Working.{content_put}
+use Rattle.rising_lists.proofs.Rising.{length-with_item}
 use Rattle.id_hash.proofs.Entries.{entry_for-entries, none-entries, entries-with_at, entries-without, other_entries-with_at, other_entries-without, length-entries_of}
 
 -- the bucket of an identifier has the spelling of the entries that lead from it
@@ -79,22 +80,12 @@ leads_after shape contents writes vertices changed id words ordered leads rising
     few_cases place is true e = subst (λ ws. length ws ≤ most_words) (sym e) few
     few_cases place is false e = subst (λ ws. length ws ≤ most_words) (sym e) (leads.within place is)
 
-length-with_entry : (entry : BucketEntry) (entries : List BucketEntry) → length (with_entry entry entries) ≤ length entries + 1
-length-with_entry entry [] = omega arith
-length-with_entry entry (other ∷ others) =
-    let rest = length-with_entry entry others in
-    elim (nat_cmp entry.id other.id) as (λ o. length (by_order o (entry ∷ other ∷ others) (entry ∷ others) (other ∷ with_entry entry others)) ≤ length (other ∷ others) + 1) [
-      | Less ↦ omega arith
-      | Equal ↦ omega arith
-      | Greater ↦ omega (arith, rest)
-    ]
-
 -- the words of a bucket that takes one more are few enough
 pub few_with : (bucket : BucketHolder) (entry : BucketEntry) → not (is_too_large (2 * (length bucket.entries + 1))) ≡ true
     → length (bucket_words (record { entries = with_entry entry bucket.entries })) ≤ most_words
 few_with bucket entry takes =
     let room : 2 * (length bucket.entries + 1) ≤ most_words = grind (arith, nat_tests) in
-    omega (arith, room, length-entries (with_entry entry bucket.entries), length-with_entry entry bucket.entries)
+    omega (arith, room, length-entries (with_entry entry bucket.entries), length-with_item id_of nat_cmp entry bucket.entries)
 
 -- and so are those of one from which an entry is taken
 pub few_without : (shape : Shape) (contents : Contents) (vertices : VertexObjects) (id other : ℕ) (bucket : BucketHolder) → IsInRange shape → BucketsLead shape contents vertices
@@ -114,7 +105,7 @@ leads_with shape contents writes vertices id object bucket small fits ranges ord
     (IsMap-put nat_cmp nat_cmp_total id object vertices leads.rising)
     (All-put nat_cmp nat_cmp-IsAntisymmetric (λ entry. (entry.0 < 2 ^ 64) × FitsOneWord entry.1) id object vertices (small, fits) leads.each)
     (spelled ∙ ap (λ entries. bucket_words (record { entries = entries }))
-    (ap (with_entry (record { id = id; at = object })) entries ∙ sym (entries-with_at shape vertices id object leads.rising absent)))
+    (ap (with_entry (record { id = id; at = object })) entries ∙ sym (entries-with_at shape vertices id object leads.rising)))
     (λ place apart. other_entries-with_at shape vertices id object place apart leads.rising) few
 
 -- where one leads nowhere

@@ -1,202 +1,214 @@
--- A list of items that rise by their keys: where a key stands, and the list with one item more or less.
-use Rattle.std.proofs.Common.{◌≡◌, ℕ, zero, suc, ◌+◌, ◌<◌, ◌≤◌, Bool, true, false, cond, eqb, ltb, List, [], ◌∷◌, length, get_or, slice_get, Some, None, Result, Ok, Err, MatchResult, refl, sym, ap, subst, ◌∙◌, arith, eq-eqb, lt-ltb, ltb-true}
+-- A list of items that rise by their keys: it is a map in order, so what std knows of maps holds of it; where a key
+-- stands, and the list with one item more or less.
+use Rattle.std.proofs.Common.{◌≡◌, ℕ, zero, suc, ◌+◌, ◌<◌, ◌≤◌, Bool, true, false, cond, eqb, ◌&&◌, List, [], ◌∷◌, map, length, get_or, slice_get, Option, Some, None, Result, Ok, Err, MatchResult, refl, sym, ap, subst, ◌∙◌, arith}
 use Rattle.std.specs.List.{AllByRecursion, filter, insert}
 use Rattle.std.specs.List.Sorted.{IsSearchInRange, IsBinarySearchResult, IsSortedBy}
-use Rattle.std.specs.Ordering.{nat_cmp, is_lt}
-use Rattle.std.specs.Cmp.{nat_cmp_total}
+use Rattle.std.specs.Prelude.{nat_lt}
+use Rattle.std.specs.Ordering.{is_eq, is_lt, eq_by_cmp, nat_cmp, ordering_reverse}
+use Rattle.std.specs.Cmp.{IsTotalOrder, tied_itself}
 use Rattle.std.specs.declared.cmp.Ordering.{Ordering}
 use Rattle.std.specs.declared.cmp.Ordering.TheVariants.{Less, Equal, Greater}
-use Rattle.std.specs.FinMap.{nat_cmp-IsAntisymmetric}
-use Rattle.std.specs.FinMap.Entries.{by_order}
+use Rattle.std.specs.FinMap.{IsAntisymmetric, find, is_sorted, put}
+use Rattle.std.specs.FinMap.Entries.{by_order, below_all, find-put, is_sorted-put, is_sorted-where_key, where_key}
+use lib.Dec.{T}
 use Rattle.std.proofs.lemmas.Bool.{and_parts, and_from}
-use Rattle.std.proofs.lemmas.Bool.Decides.{nat_tests}
 use Rattle.std.proofs.lemmas.List.Sorted.{searchable_from_sorted}
 use Rattle.std.proofs.lemmas.Option.{slice_get-get_or}
-use Rattle.rising_lists.specs.Rising.{is_rising, rises_by, item_of, with_item}
+use Rattle.rising_lists.specs.Rising.{is_rising, by_key, item_of, with_item}
 
-same_value : {A : Type 0} (x y : A) → Some x ≡ Some y → x ≡ y
+pub to_T : (b : Bool) → b ≡ true → T b
+to_T b e = subst T (sym e) tt
+
+pub of_T : (b : Bool) → T b → b ≡ true
+of_T true h = refl
+of_T false h = absurd h
+
+less_is : (o : Ordering) → is_lt o ≡ true → o ≡ Less
+less_is Less is = refl
+less_is Equal is = absurd (cc is)
+less_is Greater is = absurd (cc is)
+
+same_value : {X : Type 0} (x y : X) → Some x ≡ Some y → x ≡ y
 same_value x y is = cc is
 
-nothing : {A B : Type 0} (x : A) → None ≡ Some x → B
+nothing : {X Y : Type 0} (x : X) → None ≡ Some x → Y
 nothing x is = absurd (cc is)
 
-All-map : {X : Type 0} (P Q : X → Type 0) → ((x : X) → P x → Q x) → (xs : List X) → AllByRecursion P xs → AllByRecursion Q xs
-All-map P Q f [] all = tt
-All-map P Q f (x ∷ xs) all = (f x all.0, All-map P Q f xs all.1)
+module _ {K : Type 0} {R : K → K → Ordering} (total : IsTotalOrder R) where
+  turned : (a b : K) (o : Ordering) → R a b ≡ o → R b a ≡ ordering_reverse o
+  turned a b o is = total.antisymm b a ∙ ap ordering_reverse is
 
-All-filter : {X : Type 0} (P : X → Type 0) (p : X → Bool) (xs : List X) → AllByRecursion P xs → AllByRecursion P (filter p xs)
-All-filter P p [] all = tt
-All-filter P p (x ∷ xs) all =
-    let rest = All-filter P p xs all.1 in
-    elim (p x) as (λ b. AllByRecursion P (cond b (x ∷ filter p xs) (filter p xs))) [ true ↦ (all.0, rest) | false ↦ rest ]
+  below_lower : {X : Type 0} (a b : K) (es : List (K × X)) → R a b ≡ Less → below_all R b es ≡ true → below_all R a es ≡ true
+  below_lower a b [] below all = refl
+  below_lower a b (e ∷ es) below all =
+      let parts = and_parts (is_lt (R b e.0)) (below_all R b es) all in
+      and_from (is_lt (R a e.0)) (below_all R a es) (ap is_lt (total.trans a b e.0 below (less_is (R b e.0) parts.0))) (below_lower a b es below parts.1)
 
-module _ {E : Type 0} (key : E → ℕ) where
-  -- ---- entries that rise
+pub All-with_item : {E K : Type 0} (key : E → K) (R : K → K → Ordering) (P : E → Type 0) (item : E) (es : List E) → P item → AllByRecursion P es → AllByRecursion P (with_item key R item es)
+All-with_item key R P item [] here all = (here, tt)
+All-with_item key R P item (e ∷ es) here all =
+    elim (R (key item) (key e)) as (λ order. AllByRecursion P (by_order order (item ∷ e ∷ es) (item ∷ es) (e ∷ with_item key R item es))) [
+      | Less ↦ (here, all)
+      | Equal ↦ (here, all.1)
+      | Greater ↦ (all.0, All-with_item key R P item es here all.1)
+    ]
 
-  -- the other is above the one
-  abbrev IsAbove : E → E → Type 0
-  IsAbove one other = (key one) < (key other)
+pub length-with_item : {E K : Type 0} (key : E → K) (R : K → K → Ordering) (item : E) (es : List E) → length (with_item key R item es) ≤ length es + 1
+length-with_item key R item [] = omega arith
+length-with_item key R item (e ∷ es) =
+    let rest = length-with_item key R item es in
+    elim (R (key item) (key e)) as (λ order. length (by_order order (item ∷ e ∷ es) (item ∷ es) (e ∷ with_item key R item es)) ≤ length (e ∷ es) + 1) [
+      | Less ↦ omega arith
+      | Equal ↦ omega arith
+      | Greater ↦ omega (arith, rest)
+    ]
 
-  -- all that stand behind an entry are above it
-  abbrev Rises : List E → Type 0
-  Rises [] = Unit {0}
-  Rises (e ∷ es) = AllByRecursion (IsAbove e) es × Rises es
+module _ {E K : Type 0} (key : E → K) {R : K → K → Ordering} (total : IsTotalOrder R) (same : IsAntisymmetric R) where
+  -- ---- the list as a map
 
-  all_above : (e f : E) (es : List E) → (key e) < (key f) → AllByRecursion (IsAbove f) es → AllByRecursion (IsAbove e) es
-  all_above e f es below above = All-map (IsAbove f) (IsAbove e) (λ other later. omega arith) es above
+  pub by_key-with_item : (item : E) (es : List E) → by_key key (with_item key R item es) ≡ put R (key item) item (by_key key es)
+  by_key-with_item item [] = refl
+  by_key-with_item item (e ∷ es) =
+      elim (R (key item) (key e)) as (λ o. R (key item) (key e) ≡ o → by_key key (by_order o (item ∷ e ∷ es) (item ∷ es) (e ∷ with_item key R item es))
+      ≡ by_order o ((key item, item) ∷ by_key key (e ∷ es)) ((key e, item) ∷ by_key key es) ((key e, e) ∷ put R (key item) item (by_key key es))) [
+        | Less ↦ λ _. refl
+        | Equal ↦ λ tied. ap (λ k. (k, item) ∷ by_key key es) (same (key item) (key e) tied)
+        | Greater ↦ λ _. ap (λ rest. (key e, e) ∷ rest) (by_key-with_item item es)
+      ] refl
 
-  rises : (es : List E) → is_rising (rises_by key) es ≡ true → Rises es
-  rises [] rising = tt
-  rises (e ∷ []) rising = (tt, tt)
-  rises (e ∷ f ∷ es) rising =
-      let parts = and_parts (ltb (key e) (key f)) (is_rising (rises_by key) (f ∷ es)) rising in
-      let below : (key e) < (key f) = ltb-true (key e) (key f) parts.0 in
-      let rest = rises (f ∷ es) parts.1 in
-      ((below, all_above e f es below rest.0), rest)
-
-  is_rising-from : (es : List E) → Rises es → is_rising (rises_by key) es ≡ true
-  is_rising-from [] rise = refl
-  is_rising-from (e ∷ []) rise = refl
-  is_rising-from (e ∷ f ∷ es) rise = and_from (ltb (key e) (key f)) _ (lt-ltb (key e) (key f) rise.0.0) (is_rising-from (f ∷ es) rise.1)
-
-  Rises-filter : (p : E → Bool) (es : List E) → Rises es → Rises (filter p es)
-  Rises-filter p [] rise = tt
-  Rises-filter p (e ∷ es) rise =
-      let rest = Rises-filter p es rise.1 in
-      elim (p e) as (λ b. Rises (cond b (e ∷ filter p es) (filter p es))) [
-        | true ↦ (All-filter (IsAbove e) p es rise.0, rest)
+  pub by_key-where : (p : K → Bool) (es : List E) → by_key key (filter (λ e. p (key e)) es) ≡ where_key R p (by_key key es)
+  by_key-where p [] = refl
+  by_key-where p (e ∷ es) =
+      let rest = by_key-where p es in
+      elim (p (key e)) as (λ b. by_key key (cond b (e ∷ filter (λ f. p (key f)) es) (filter (λ f. p (key f)) es)) ≡ cond b ((key e, e) ∷ where_key R p (by_key key es)) (where_key R p (by_key key es))) [
+        | true ↦ ap (λ others. (key e, e) ∷ others) rest
         | false ↦ rest
       ]
 
-  pub All-with_item : (P : E → Type 0) (entry : E) (es : List E) → P entry → AllByRecursion P es → AllByRecursion P (with_item key entry es)
-  All-with_item P entry [] here all = (here, tt)
-  All-with_item P entry (e ∷ es) here all =
-      elim (nat_cmp (key entry) (key e)) as (λ order. AllByRecursion P (by_order order (entry ∷ e ∷ es) (entry ∷ es) (e ∷ with_item key entry es))) [
-        | Less ↦ (here, all)
-        | Equal ↦ (here, all.1)
-        | Greater ↦ (all.0, All-with_item P entry es here all.1)
-      ]
+  pub item_of-with_item : (item : E) (es : List E) (k : K) → item_of key R (with_item key R item es) k ≡ cond (eq_by_cmp R k (key item)) (Some item) (item_of key R es k)
+  item_of-with_item item es k = ap (find R k) (by_key-with_item item es) ∙ find-put R total k (key item) item (by_key key es)
 
-  Rises-with_item : (entry : E) (es : List E) → Rises es → Rises (with_item key entry es)
-  Rises-with_item entry [] rise = (tt, tt)
-  Rises-with_item entry (e ∷ es) rise =
-      elim (nat_cmp (key entry) (key e)) as (λ order. nat_cmp (key entry) (key e) ≡ order → Rises (by_order order (entry ∷ e ∷ es) (entry ∷ es) (e ∷ with_item key entry es))) [
-        | Less ↦ λ is.
-            let below : (key entry) < (key e) = grind (arith, nat_tests) in
-            ((below, all_above entry e es below rise.0), rise)
-        | Equal ↦ λ is.
-            let same = nat_cmp-IsAntisymmetric (key entry) (key e) is in
-            (All-map (IsAbove e) (IsAbove entry) (λ other later. omega arith) es rise.0, rise.1)
-        | Greater ↦ λ is.
-            let below : (key e) < (key entry) = grind (arith, nat_tests) in
-            (All-with_item (IsAbove e) entry es below rise.0, Rises-with_item entry es rise.1)
-      ] refl
+  -- ---- each before the next, and each before all that follow
 
-  -- ---- where an identifier stands
+  module _ (before : E → E → Bool) (alike : (x y : E) → before x y ≡ is_lt (R (key x) (key y))) where
+    sorted : (es : List E) → is_rising before es ≡ true → is_sorted R (by_key key es) ≡ true
+    sorted [] rising = refl
+    sorted (e ∷ []) rising = refl
+    sorted (e ∷ f ∷ es) rising =
+        let parts = and_parts (before e f) (is_rising before (f ∷ es)) rising in
+        let rest = sorted (f ∷ es) parts.1 in
+        let first = sym (alike e f) ∙ parts.0 in
+        let later = (and_parts (below_all R (key f) (by_key key es)) (is_sorted R (by_key key es)) rest).0 in
+        and_from (is_lt (R (key e) (key f)) && below_all R (key e) (by_key key es)) (is_sorted R (by_key key (f ∷ es)))
+        (and_from (is_lt (R (key e) (key f))) (below_all R (key e) (by_key key es)) first (below_lower total (key e) (key f) (by_key key es) (less_is (R (key e) (key f)) first) later)) rest
 
-  All-at : (P : E → Type 0) (es : List E) (i : ℕ) (found : E) → AllByRecursion P es → slice_get es i ≡ Some found → P found
-  All-at P [] i found all is = nothing found is
-  All-at P (e ∷ es) zero found all is = subst P (same_value e found is) all.0
-  All-at P (e ∷ es) (suc i) found all is = All-at P es i found all.1 is
+    is_rising-from : (es : List E) → is_sorted R (by_key key es) ≡ true → is_rising before es ≡ true
+    is_rising-from [] rise = refl
+    is_rising-from (e ∷ []) rise = refl
+    is_rising-from (e ∷ f ∷ es) rise =
+        let parts = and_parts (is_lt (R (key e) (key f)) && below_all R (key e) (by_key key es)) (is_sorted R (by_key key (f ∷ es))) rise in
+        and_from (before e f) (is_rising before (f ∷ es)) (alike e f ∙ (and_parts (is_lt (R (key e) (key f))) (below_all R (key e) (by_key key es)) parts.0).0) (is_rising-from (f ∷ es) parts.1)
 
-  item_of_here : (e : E) (es : List E) (id : ℕ) → (key e) ≡ id → item_of key (e ∷ es) id ≡ Some e
-  item_of_here e es id is = ap (λ b. cond b (Some e) (item_of key es id)) (eq-eqb (key e) id is)
+    pub is_rising-with_item : (item : E) (es : List E) → is_rising before es ≡ true → is_rising before (with_item key R item es) ≡ true
+    is_rising-with_item item es rising =
+        is_rising-from (with_item key R item es) (ap (is_sorted R) (by_key-with_item item es) ∙ of_T _ (is_sorted-put R total (key item) item (by_key key es) (to_T _ (sorted es rising))))
 
-  item_of_later : (e : E) (es : List E) (id : ℕ) → ((key e) ≡ id → ⊥) → item_of key (e ∷ es) id ≡ item_of key es id
-  item_of_later e es id apart =
-      let differs : eqb (key e) id ≡ false = grind (arith, nat_tests) in
-      ap (λ b. cond b (Some e) (item_of key es id)) differs
+    pub is_rising-where : (p : K → Bool) (es : List E) → is_rising before es ≡ true → is_rising before (filter (λ e. p (key e)) es) ≡ true
+    is_rising-where p es rising =
+        is_rising-from (filter (λ e. p (key e)) es) (ap (is_sorted R) (by_key-where p es) ∙ of_T _ (is_sorted-where_key R p (by_key key es) (to_T _ (sorted es rising))))
 
-  -- in a list that rises the entry at a place is that of its identifier
-  item_of_at : (es : List E) (i : ℕ) (found : E) → Rises es → slice_get es i ≡ Some found → item_of key es (key found) ≡ Some found
+  -- ---- where a key stands
+
+  below_at : (k : K) (es : List E) (i : ℕ) (found : E) → below_all R k (by_key key es) ≡ true → slice_get es i ≡ Some found → R k (key found) ≡ Less
+  below_at k [] i found all is = nothing found is
+  below_at k (e ∷ es) zero found all is = ap (λ (item : E). R k (key item)) (sym (same_value e found is)) ∙ less_is (R k (key e)) (and_parts (is_lt (R k (key e))) (below_all R k (by_key key es)) all).0
+  below_at k (e ∷ es) (suc i) found all is = below_at k es i found (and_parts (is_lt (R k (key e))) (below_all R k (by_key key es)) all).1 is
+
+  item_of_later : (e : E) (es : List E) (k : K) (o : Ordering) → R k (key e) ≡ o → is_eq o ≡ false → item_of key R (e ∷ es) k ≡ item_of key R es k
+  item_of_later e es k o is apart = ap (λ b. cond b (Some e) (item_of key R es k)) (ap is_eq is ∙ apart)
+
+  -- in a list that rises the item at a place is that of its key
+  item_of_at : (es : List E) (i : ℕ) (found : E) → is_sorted R (by_key key es) ≡ true → slice_get es i ≡ Some found → item_of key R es (key found) ≡ Some found
   item_of_at [] i found rise is = nothing found is
   item_of_at (e ∷ es) zero found rise is =
-      let same = same_value e found is in
-      item_of_here e es (key found) (ap key same) ∙ is
+      let here = same_value e found is in
+      ap (λ b. cond b (Some e) (item_of key R es (key found))) (ap (λ (item : E). eq_by_cmp R (key item) (key e)) (sym here) ∙ ap is_eq (tied_itself total (key e))) ∙ is
   item_of_at (e ∷ es) (suc i) found rise is =
-      let above : (key e) < (key found) = All-at (IsAbove e) es i found rise.0 is in
-      item_of_later e es (key found) (λ same. omega arith) ∙ item_of_at es i found rise.1 is
+      let parts = and_parts (below_all R (key e) (by_key key es)) (is_sorted R (by_key key es)) rise in
+      item_of_later e es (key found) Greater (turned total (key e) (key found) Less (below_at (key e) es i found parts.0 is)) refl ∙ item_of_at es i found parts.1 is
 
-  -- i is the place at which an identifier would stand
-  pub record IsGapFor (es : List E) (id i : ℕ) : Type 0 where
+  -- i is the place at which a key would stand
+  record IsGapFor (es : List E) (k : K) (i : ℕ) : Type 0 where
     within : i ≤ length es
-    below : (k : ℕ) (d : E) → k < i → (key (get_or es k d)) < id
-    above : (k : ℕ) (d : E) → i ≤ k → k < length es → id < (key (get_or es k d))
+    below : (j : ℕ) (d : E) → j < i → R (key (get_or es j d)) k ≡ Less
+    above : (j : ℕ) (d : E) → i ≤ j → j < length es → R (key (get_or es j d)) k ≡ Greater
 
-  gap_behind : (e : E) (es : List E) (id i : ℕ) → IsGapFor (e ∷ es) id (suc i) → IsGapFor es id i
-  gap_behind e es id i gap = record {
+  gap_behind : (e : E) (es : List E) (k : K) (i : ℕ) → IsGapFor (e ∷ es) k (suc i) → IsGapFor es k i
+  gap_behind e es k i gap = record {
     within = omega (arith, gap.within);
-    below = λ k d lt. gap.below (suc k) d (omega arith);
-    above = λ k d le lt. gap.above (suc k) d (omega arith) (omega arith);
+    below = λ j d lt. gap.below (suc j) d (omega arith);
+    above = λ j d le lt. gap.above (suc j) d (omega arith) (omega arith);
   }
 
-  none_above : (es : List E) (id : ℕ) → ((k : ℕ) (d : E) → k < length es → id < (key (get_or es k d))) → item_of key es id ≡ None
-  none_above [] id above = refl
-  none_above (e ∷ es) id above =
-      let first : id < (key e) = above 0 e (omega arith) in
-      item_of_later e es id (λ same. omega arith) ∙ none_above es id (λ k d lt. above (suc k) d (omega arith))
+  none_above : (es : List E) (k : K) → ((j : ℕ) (d : E) → j < length es → R (key (get_or es j d)) k ≡ Greater) → item_of key R es k ≡ None
+  none_above [] k above = refl
+  none_above (e ∷ es) k above =
+      item_of_later e es k Less (turned total (key e) k Greater (above 0 e (omega arith))) refl ∙ none_above es k (λ j d lt. above (suc j) d (omega arith))
 
-  none_at_gap : (es : List E) (id i : ℕ) → IsGapFor es id i → item_of key es id ≡ None
-  none_at_gap es id zero gap = none_above es id (λ k d lt. gap.above k d (omega arith) lt)
-  none_at_gap [] id (suc i) gap = refl
-  none_at_gap (e ∷ es) id (suc i) gap =
-      let first : (key e) < id = gap.below 0 e (omega arith) in
-      item_of_later e es id (λ same. omega arith) ∙ none_at_gap es id i (gap_behind e es id i gap)
+  none_at_gap : (es : List E) (k : K) (i : ℕ) → IsGapFor es k i → item_of key R es k ≡ None
+  none_at_gap es k zero gap = none_above es k (λ j d lt. gap.above j d (omega arith) lt)
+  none_at_gap [] k (suc i) gap = refl
+  none_at_gap (e ∷ es) k (suc i) gap =
+      item_of_later e es k Greater (turned total (key e) k Less (gap.below 0 e (omega arith))) refl ∙ none_at_gap es k i (gap_behind e es k i gap)
 
-  with_item-by : (entry e : E) (es : List E) (order : Ordering) → nat_cmp (key entry) (key e) ≡ order → by_order order (entry ∷ e ∷ es) (entry ∷ es) (e ∷ with_item key entry es) ≡ with_item key entry (e ∷ es)
-  with_item-by entry e es order is = ap (λ o. by_order o (entry ∷ e ∷ es) (entry ∷ es) (e ∷ with_item key entry es)) (sym is)
+  with_item-by : (item e : E) (es : List E) (order : Ordering) → R (key item) (key e) ≡ order → by_order order (item ∷ e ∷ es) (item ∷ es) (e ∷ with_item key R item es) ≡ with_item key R item (e ∷ es)
+  with_item-by item e es order is = ap (λ o. by_order o (item ∷ e ∷ es) (item ∷ es) (e ∷ with_item key R item es)) (sym is)
 
-  -- an insert there is what `with_item key` gives
-  insert_at_gap : (entry : E) (es : List E) (i : ℕ) → IsGapFor es (key entry) i → insert es i entry ≡ with_item key entry es
-  insert_at_gap entry [] zero gap = refl
-  insert_at_gap entry [] (suc i) gap = absurd (omega (arith, gap.within))
-  insert_at_gap entry (e ∷ es) zero gap =
-      let first : (key entry) < (key e) = gap.above 0 e (omega arith) (omega arith) in
-      with_item-by entry e es Less (grind (arith, nat_tests))
-  insert_at_gap entry (e ∷ es) (suc i) gap =
-      let first : (key e) < (key entry) = gap.below 0 e (omega arith) in
-      ap (λ others. e ∷ others) (insert_at_gap entry es i (gap_behind e es (key entry) i gap)) ∙ with_item-by entry e es Greater (grind (arith, nat_tests))
+  -- an insert there is what `with_item` gives
+  insert_at_gap : (item : E) (es : List E) (i : ℕ) → IsGapFor es (key item) i → insert es i item ≡ with_item key R item es
+  insert_at_gap item [] zero gap = refl
+  insert_at_gap item [] (suc i) gap = absurd (omega (arith, gap.within))
+  insert_at_gap item (e ∷ es) zero gap = with_item-by item e es Less (turned total (key e) (key item) Greater (gap.above 0 e (omega arith) (omega arith)))
+  insert_at_gap item (e ∷ es) (suc i) gap =
+      ap (λ others. e ∷ others) (insert_at_gap item es i (gap_behind e es (key item) i gap)) ∙ with_item-by item e es Greater (turned total (key e) (key item) Less (gap.below 0 e (omega arith)))
 
   -- ---- what a binary search tells
 
-  rises_next : (es : List E) (k : ℕ) (d : E) → Rises es → suc k < length es → (key (get_or es k d)) < (key (get_or es (suc k) d))
-  rises_next [] k d rise within = absurd (omega arith)
-  rises_next (e ∷ es) zero d rise within = All-at (IsAbove e) es 0 (get_or es 0 d) rise.0 (slice_get-get_or es 0 d (omega arith))
-  rises_next (e ∷ es) (suc k) d rise within = rises_next es k d rise.1 (omega arith)
+  rises_next : (es : List E) (j : ℕ) (d : E) → is_sorted R (by_key key es) ≡ true → suc j < length es → R (key (get_or es j d)) (key (get_or es (suc j) d)) ≡ Less
+  rises_next [] j d rise within = absurd (omega arith)
+  rises_next (e ∷ es) zero d rise within =
+      below_at (key e) es 0 (get_or es 0 d) (and_parts (below_all R (key e) (by_key key es)) (is_sorted R (by_key key es)) rise).0 (slice_get-get_or es 0 d (omega arith))
+  rises_next (e ∷ es) (suc j) d rise within = rises_next es j d (and_parts (below_all R (key e) (by_key key es)) (is_sorted R (by_key key es)) rise).1 (omega arith)
 
-  not_below : (a b : ℕ) → a < b → is_lt (nat_cmp b a) ≡ false
-  not_below a b below = grind (arith, nat_tests)
+  sorted_by_key : (es : List E) → is_sorted R (by_key key es) ≡ true → IsSortedBy (λ a b. is_lt (R (key a) (key b))) es
+  sorted_by_key es rise j d _ within =
+      let next : suc j ≡ j + 1 = omega arith in
+      subst (λ i. is_lt (R (key (get_or es i d)) (key (get_or es j d))) ≡ false) next
+      (ap is_lt (turned total (key (get_or es j d)) (key (get_or es (suc j) d)) Less (rises_next es j d rise (omega arith))))
 
-  sorted_by_id : (es : List E) → Rises es → IsSortedBy (λ a b. is_lt (nat_cmp (key a) (key b))) es
-  sorted_by_id es rise k d _ within =
-      let next : suc k ≡ k + 1 = omega arith in
-      subst (λ j. is_lt (nat_cmp (key (get_or es j d)) (key (get_or es k d))) ≡ false) next (not_below (key (get_or es k d)) (key (get_or es (suc k) d)) (rises_next es k d rise (omega arith)))
-
-  less_is : (a b : ℕ) → nat_cmp a b ≡ Less → a < b
-  less_is a b is = grind (arith, nat_tests)
-
-  greater_is : (a b : ℕ) → nat_cmp a b ≡ Greater → b < a
-  greater_is a b is = grind (arith, nat_tests)
-
-  -- the entry of the identifier, or the place at which an insert adds one
-  pub from_search : (d : E) (es : List E) (id : ℕ) (r : Result ℕ ℕ) → is_rising (rises_by key) es ≡ true → IsSearchInRange r (length es) → IsBinarySearchResult (λ entry. nat_cmp (key entry) id) es r
-      → MatchResult r (λ i. (found : E) × (slice_get es i ≡ Some found) × (item_of key es id ≡ Some found))
-      (λ i. (i ≤ length es) × (item_of key es id ≡ None) × ((entry : E) → (key entry) ≡ id → insert es i entry ≡ with_item key entry es))
-  from_search d es id (Ok i) rising within found =
-      let entry = get_or es i d in
+  -- the item of the key, or the place at which an insert adds one
+  pub from_search : (before : E → E → Bool) → ((x y : E) → before x y ≡ is_lt (R (key x) (key y))) → (d : E) (es : List E) (k : K) (r : Result ℕ ℕ)
+      → is_rising before es ≡ true → IsSearchInRange r (length es) → IsBinarySearchResult (λ item. R (key item) k) es r
+      → MatchResult r (λ i. (found : E) × (slice_get es i ≡ Some found) × (item_of key R es k ≡ Some found))
+      (λ i. (i ≤ length es) × (item_of key R es k ≡ None) × ((item : E) → key item ≡ k → insert es i item ≡ with_item key R item es))
+  from_search before alike d es k (Ok i) rising within found =
+      let item = get_or es i d in
       let here = slice_get-get_or es i d within in
-      (entry, here, subst (λ k. item_of key es k ≡ Some entry) (nat_cmp-IsAntisymmetric (key entry) id (found d)) (item_of_at es i entry (rises es rising) here))
-  from_search d es id (Err i) rising within searching =
-      let parted = searching (searchable_from_sorted nat_cmp_total key es id (sorted_by_id es (rises es rising))) in
-      let gap : IsGapFor es id i = record {
+      (item, here, subst (λ k'. item_of key R es k' ≡ Some item) (same (key item) k (found d)) (item_of_at es i item (sorted before alike es rising) here))
+  from_search before alike d es k (Err i) rising within searching =
+      let parted = searching (searchable_from_sorted total key es k (sorted_by_key es (sorted before alike es rising))) in
+      let gap : IsGapFor es k i = record {
         within = within;
-        below = λ k d lt. less_is (key (get_or es k d)) id (parted.0 k d (omega arith) lt);
-        above = λ k d le lt. greater_is (key (get_or es k d)) id (parted.1 k d le lt);
+        below = λ j d lt. parted.0 j d (omega arith) lt;
+        above = λ j d le lt. parted.1 j d le lt;
       } in
-      (within, none_at_gap es id i gap, λ entry same. insert_at_gap entry es i (subst (λ k. IsGapFor es k i) (sym same) gap))
+      (within, none_at_gap es k i gap, λ item is. insert_at_gap item es i (subst (λ k'. IsGapFor es k' i) (sym is) gap))
 
-  pub is_rising-with_item : (item : E) (es : List E) → is_rising (rises_by key) es ≡ true → is_rising (rises_by key) (with_item key item es) ≡ true
-  is_rising-with_item item es rising = is_rising-from (with_item key item es) (Rises-with_item item es (rises es rising))
+-- ---- keys that are numbers
 
-  pub is_rising-filter : (p : E → Bool) (es : List E) → is_rising (rises_by key) es ≡ true → is_rising (rises_by key) (filter p es) ≡ true
-  is_rising-filter p es rising = is_rising-from (filter p es) (Rises-filter p es (rises es rising))
+pub lt_by_nat_cmp : (a b : ℕ) → nat_lt a b ≡ is_lt (nat_cmp a b)
+lt_by_nat_cmp a b =
+    elim (nat_lt a b) as (λ below. below ≡ is_lt (cond below Less (cond (eqb a b) Equal Greater))) [
+      | true ↦ refl
+      | false ↦ elim (eqb a b) as (λ tie. false ≡ is_lt (cond tie Equal Greater)) [ true ↦ refl | false ↦ refl ]
+    ]
