@@ -43,7 +43,7 @@ holds_of Le order = is_lt order || is_eq order
 holds_of Gt order = is_lt (ordering_reverse order)
 holds_of Ge order = not (is_lt order)
 
--- a property passes if it is there and compares so with the constant
+-- a property passes if some value of it compares so with the constant; one that is absent has none
 abbrev pub passes_atom : List (List ℕ) → List PropLine → Atom → Bool
 passes_atom labels props (Has name) = list_any (bytes_eq name) labels
 passes_atom labels props (Lacks name) = not (list_any (bytes_eq name) labels)

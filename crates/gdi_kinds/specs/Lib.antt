@@ -1,3 +1,4 @@
+pub mod Calls
 pub mod Constraint
 pub mod Names
 pub mod Texts

@@ -1,11 +1,19 @@
+ghost use Rattle.std.specs.Prelude.{◌≡◌};
+ghost use Rattle.gdi_kinds.specs.Calls.{is_writing_call, is_whole_call};
+
 use crate::{Duplicate, Kind, Name, NoMemory, Test, Value};
 use std::alloc::Global;
 
-/// Which edges of a vertex are meant: those from it, those to it, or both.
+/// Which edges of a vertex are meant.
 #[derive(Clone, Copy, Debug, PartialEq, Eq)]
 pub enum Dir {
+    /// The directed ones from it.
     Outward,
+    /// The directed ones to it.
     Inward,
+    /// The undirected ones.
+    Undirected,
+    /// All of these.
     Either,
 }
 
@@ -17,9 +25,11 @@ pub enum Call {
     NewLabel {
         name: Name,
     },
+    /// A marked type, one that may have `many`, keeps a list of values; any other keeps one value.
     NewType {
         name: Name,
         kind: Kind,
+        many: bool,
     },
     Vertex {
         id: u64,
@@ -46,6 +56,12 @@ pub enum Call {
         prop: Name,
         value: Value,
     },
+    /// Puts a value behind those that are there.
+    Add {
+        id: u64,
+        prop: Name,
+        value: Value,
+    },
     Get {
         id: u64,
         prop: Name,
@@ -58,6 +74,12 @@ pub enum Call {
         id: u64,
     },
     Edge {
+        source: u64,
+        target: u64,
+        label: Option<Name>,
+    },
+    /// An undirected edge. It has its ordinal at its source, and is walked both ways.
+    UEdge {
         source: u64,
         target: u64,
         label: Option<Name>,
@@ -85,6 +107,12 @@ pub enum Call {
         ordinal: u64,
     },
     ESet {
+        source: u64,
+        ordinal: u64,
+        prop: Name,
+        value: Value,
+    },
+    EAdd {
         source: u64,
         ordinal: u64,
         prop: Name,
@@ -149,11 +177,54 @@ macro_rules! copy_of {
     };
 }
 
+impl Call {
+    /// Whether it is one of the calls that may change the graph.
+    pub fn is_writing(&self) -> bool
+        ensures { result ≡ is_writing_call self.now }
+    {
+        match self {
+            Call::NewLabel { .. }
+            | Call::NewType { .. }
+            | Call::Vertex { .. }
+            | Call::DropVertex { .. }
+            | Call::Tag { .. }
+            | Call::Untag { .. }
+            | Call::Set { .. }
+            | Call::Add { .. }
+            | Call::Unset { .. }
+            | Call::Edge { .. }
+            | Call::UEdge { .. }
+            | Call::Cut { .. }
+            | Call::ETag { .. }
+            | Call::EUntag { .. }
+            | Call::ESet { .. }
+            | Call::EAdd { .. }
+            | Call::EUnset { .. } => true,
+            _ => false,
+        }
+    }
+
+    /// Whether it is a whole-graph call.
+    pub fn is_whole(&self) -> bool
+        ensures { result ≡ is_whole_call self.now }
+    {
+        match self {
+            Call::Hood { .. }
+            | Call::Levels { .. }
+            | Call::Parts
+            | Call::Scan { .. }
+            | Call::Vertices
+            | Call::Arcs => true,
+            _ => false,
+        }
+    }
+}
+
 impl Duplicate for Call {
     fn copy(&self, alloc: Global) -> Result<Call, NoMemory> {
         Ok(copy_of!(self, alloc;
             NewLabel { name }
-            NewType { name, kind }
+            NewType { name, kind, many }
             Vertex { id }
             Has { id }
             DropVertex { id }
@@ -161,16 +232,19 @@ impl Duplicate for Call {
             Untag { id, label }
             Tags { id }
             Set { id, prop; value }
+            Add { id, prop; value }
             Get { id, prop }
             Unset { id, prop }
             Props { id }
             Edge { source, target, label }
+            UEdge { source, target, label }
             Cut { source, ordinal }
             Target { source, ordinal }
             ETag { source, ordinal, label }
             EUntag { source, ordinal, label }
             ETags { source, ordinal }
             ESet { source, ordinal, prop; value }
+            EAdd { source, ordinal, prop; value }
             EGet { source, ordinal, prop }
             EUnset { source, ordinal, prop }
             EProps { source, ordinal }

@@ -29,7 +29,7 @@ pub use edge_line::EdgeLine;
 pub use list_of::ListOf;
 pub use lists::{
     AtomList, Bytes, CallList, CommandWordList, EdgeList, FileList, LineList, NameList, NumList,
-    PairList, PropList, ReplyList, Script, Section, Test, U32List,
+    PairList, PropList, ReplyList, Script, Section, Test, U32List, ValueList,
 };
 pub use name::Name;
 pub use named_bytes::NamedBytes;

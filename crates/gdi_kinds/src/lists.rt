@@ -1,5 +1,6 @@
 use crate::{
     Atom, Call, CommandWord, EdgeLine, Line, ListOf, Name, NamedBytes, Pair, PropLine, Reply, Txn,
+    Value,
 };
 
 /// Bytes, as a file or a text has them.
@@ -22,6 +23,9 @@ pub type NameList = ListOf<Name>;
 
 /// Properties with their names.
 pub type PropList = ListOf<PropLine>;
+
+/// The values of a property whose type is marked. A value may stand there again.
+pub type ValueList = ListOf<Value>;
 
 /// Ends of edges, as seen from one vertex.
 pub type EdgeList = ListOf<EdgeLine>;

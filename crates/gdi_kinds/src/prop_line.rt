@@ -1,7 +1,7 @@
 use crate::{Duplicate, Name, NoMemory, Value};
 use std::alloc::Global;
 
-/// A property: the name of its type, and its value.
+/// A value of a property, with the name of its type.
 #[derive(Debug, Drop)]
 pub struct PropLine {
     pub name: Name,

@@ -1,4 +1,6 @@
-use crate::{Duplicate, EdgeList, NameList, NoMemory, NumList, PairList, PropList, Value};
+use crate::{
+    Duplicate, EdgeList, NameList, NoMemory, NumList, PairList, PropList, Value, ValueList,
+};
 use std::alloc::Global;
 
 /// The graph's answer to a call. A refusal is an answer too, and ends no transaction.
@@ -17,6 +19,8 @@ pub enum Reply {
     NoProp,
     /// The value isn't of its type's kind.
     WrongKind,
+    /// The type isn't marked, so it may not keep more than one value.
+    NotMany,
     HasLabel,
     LacksLabel,
     /// An object would pass the limit of its words, or a source has no ordinal left.
@@ -25,7 +29,10 @@ pub enum Reply {
     EdgeIs(u64, u64),
     Labels(NameList),
     Props(PropList),
+    /// The value of a property whose type isn't marked.
     Value(Value),
+    /// The values of a property whose type is marked, in their order.
+    Values(ValueList),
     Edges(EdgeList),
     Ids(NumList),
     /// Identifiers with their levels.
@@ -48,6 +55,7 @@ impl Duplicate for Reply {
             Reply::NoType => Reply::NoType,
             Reply::NoProp => Reply::NoProp,
             Reply::WrongKind => Reply::WrongKind,
+            Reply::NotMany => Reply::NotMany,
             Reply::HasLabel => Reply::HasLabel,
             Reply::LacksLabel => Reply::LacksLabel,
             Reply::TooLarge => Reply::TooLarge,
@@ -55,6 +63,7 @@ impl Duplicate for Reply {
             Reply::Labels(names) => Reply::Labels(names.copy(alloc)?),
             Reply::Props(props) => Reply::Props(props.copy(alloc)?),
             Reply::Value(value) => Reply::Value(value.copy(alloc)?),
+            Reply::Values(values) => Reply::Values(values.copy(alloc)?),
             Reply::Edges(edges) => Reply::Edges(edges.copy(alloc)?),
             Reply::Ids(ids) => Reply::Ids(ids.copy(alloc)?),
             Reply::Levels(levels) => Reply::Levels(levels.copy(alloc)?),

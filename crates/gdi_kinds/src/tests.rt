@@ -1,7 +1,9 @@
 use crate::{
-    Atom, AtomList, Call, CallList, CommandWord, Dir, Duplicate, Name, NumList, Op, Reply, Test,
-    Text, Txn, Unfit, Value,
+    Atom, AtomList, Bytes, Call, CallList, CommandWord, Dir, Duplicate, EdgeLine, EdgeList, Kind,
+    Line, LineList, Name, NameList, NamedBytes, NumList, Op, Outcome, Pair, PairList, PropLine,
+    PropList, Reply, ReplyList, Test, Text, Txn, U32List, Unfit, Value, ValueList,
 };
+use std::alloc::Global;
 use std::test::Fail;
 
 #[test]
@@ -64,23 +66,56 @@ fn lists(rt: HostRuntime) -> Result<(), Fail> {
 }
 
 #[test]
-fn copies(rt: HostRuntime) -> Result<(), Fail> {
+fn long_lists(rt: HostRuntime) -> Result<(), Fail> {
+    let mut list = NumList::new(rt.alloc());
+    for n in 0..5000u64 {
+        list.push(n)?;
+    }
+    let copied = list.copy(rt.alloc())?;
+    assert_eq!(rt; (copied.len(), *copied.at(4999)), (5000, 4999));
+    Ok(())
+}
+
+#[test]
+fn sorts_of_calls(rt: HostRuntime) -> Result<(), Fail> {
     let alloc = rt.alloc();
-    let label = Name::of(b"Person").ok_or("no name")?;
-    let mut atoms = AtomList::new(alloc);
-    atoms.push(Atom::Prop(label, Op::Le, Value::Text(Text::of(alloc, b"x")?)))?;
-    let mut test = Test::new(alloc);
-    test.push(atoms)?;
-    let mut calls = CallList::new(alloc);
-    calls.push(Call::Edges {
-        id: 5,
-        dir: Dir::Either,
-        test: Some(test),
+    let calls = every_call(alloc)?;
+    let mut writing = 0;
+    let mut whole = 0;
+    for call in calls.as_slice() {
+        assert!(rt; !(call.is_writing() && call.is_whole()));
+        if call.is_writing() {
+            writing += 1;
+        }
+        if call.is_whole() {
+            whole += 1;
+        }
+    }
+    assert_eq!(rt; (calls.len(), writing, whole), (35, 17, 6));
+    let mut txn = Txn {
+        whole: false,
+        calls: CallList::new(alloc),
+        aborts: false,
+    };
+    assert!(rt; !txn.is_writing() && !txn.is_whole() && txn.holds_its_calls());
+    txn.calls.push(Call::Parts)?;
+    assert!(rt; !txn.is_writing() && !txn.holds_its_calls());
+    txn.whole = true;
+    assert!(rt; txn.is_whole() && txn.holds_its_calls());
+    txn.calls.push(Call::Cut {
+        source: 1,
+        ordinal: 0,
     })?;
-    calls.push(Call::Vertices)?;
+    assert!(rt; txn.is_writing() && !txn.holds_its_calls());
+    Ok(())
+}
+
+#[test]
+fn copies_of_calls(rt: HostRuntime) -> Result<(), Fail> {
+    let alloc = rt.alloc();
     let txn = Txn {
         whole: false,
-        calls,
+        calls: every_call(alloc)?,
         aborts: true,
     };
     let copied = txn.copy(alloc)?;
@@ -88,8 +123,246 @@ fn copies(rt: HostRuntime) -> Result<(), Fail> {
         format!(in alloc; "{copied:?}")?,
         format!(in alloc; "{txn:?}")?
     );
-    let reply = Reply::EdgeIs(5, 2);
-    let copied = reply.copy(alloc)?;
-    assert_eq!(rt; format!(in alloc; "{copied:?}")?.as_str(), "EdgeIs(5, 2)");
     Ok(())
+}
+
+#[test]
+fn copies_of_outcomes(rt: HostRuntime) -> Result<(), Fail> {
+    let alloc = rt.alloc();
+    let mut lines = LineList::new(alloc);
+    for outcome in [
+        Outcome::Wrote {
+            k: 3,
+            replies: every_reply(alloc)?,
+        },
+        Outcome::Read {
+            place: 4,
+            replies: every_reply(alloc)?,
+        },
+        Outcome::Aborted,
+        Outcome::Full { rank: 2, place: 5 },
+    ] {
+        lines.push(Line {
+            section: 1,
+            txn: 2,
+            outcome,
+        })?;
+    }
+    let copied = lines.copy(alloc)?;
+    assert_eq!(rt;
+        format!(in alloc; "{copied:?}")?,
+        format!(in alloc; "{lines:?}")?
+    );
+    Ok(())
+}
+
+#[test]
+fn copies_of_files_and_words(rt: HostRuntime) -> Result<(), Fail> {
+    let alloc = rt.alloc();
+    let file = NamedBytes {
+        name: Bytes::from_vec(b"first.gdi".to_vec(alloc)?),
+        bytes: Bytes::from_vec(b"section".to_vec(alloc)?),
+    };
+    let copied = file.copy(alloc)?;
+    assert_eq!(rt; copied.name.as_slice(), b"first.gdi".as_slice());
+    assert_eq!(rt; copied.bytes.as_slice(), b"section".as_slice());
+    let word = CommandWord::of(alloc, "--blocks")?;
+    assert_eq!(rt; word.copy(alloc)?.text(), "--blocks");
+    let numbers = U32List::from_vec([1, 2].to_vec(alloc)?);
+    assert_eq!(rt; numbers.copy(alloc)?.as_slice(), [1, 2].as_slice());
+    Ok(())
+}
+
+fn knows() -> Result<Name, Fail> {
+    Ok(Name::of(b"KNOWS").ok_or("no name")?)
+}
+
+// One value of each kind.
+fn every_value(alloc: Global) -> Result<ValueList, Fail> {
+    let mut values = ValueList::new(alloc);
+    values.push(Value::Int(-5))?;
+    values.push(Value::Bool(true))?;
+    values.push(Value::Text(Text::of(alloc, &[b'x'; 255])?))?;
+    Ok(values)
+}
+
+fn text_value(alloc: Global) -> Result<Value, Fail> {
+    Ok(Value::Text(Text::of(alloc, b"Ada")?))
+}
+
+// A constraint with one atom of each sort.
+fn every_atom(alloc: Global) -> Result<Test, Fail> {
+    let mut atoms = AtomList::new(alloc);
+    atoms.push(Atom::Has(knows()?))?;
+    atoms.push(Atom::Lacks(knows()?))?;
+    atoms.push(Atom::Prop(knows()?, Op::Le, text_value(alloc)?))?;
+    let mut test = Test::new(alloc);
+    test.push(atoms)?;
+    Ok(test)
+}
+
+// One call of each sort; those that may have a constraint have one.
+fn every_call(alloc: Global) -> Result<CallList, Fail> {
+    let (id, source, target, ordinal) = (5, 6, 7, 8);
+    let (name, label, prop) = (knows()?, knows()?, knows()?);
+    let mut calls = CallList::new(alloc);
+    for call in [
+        Call::NewLabel { name },
+        Call::NewType {
+            name,
+            kind: Kind::Bool,
+            many: true,
+        },
+        Call::Vertex { id },
+        Call::Has { id },
+        Call::DropVertex { id },
+        Call::Tag { id, label },
+        Call::Untag { id, label },
+        Call::Tags { id },
+        Call::Set {
+            id,
+            prop,
+            value: text_value(alloc)?,
+        },
+        Call::Add {
+            id,
+            prop,
+            value: text_value(alloc)?,
+        },
+        Call::Get { id, prop },
+        Call::Unset { id, prop },
+        Call::Props { id },
+        Call::Edge {
+            source,
+            target,
+            label: Some(label),
+        },
+        Call::UEdge {
+            source,
+            target,
+            label: None,
+        },
+        Call::Cut { source, ordinal },
+        Call::Target { source, ordinal },
+    ] {
+        calls.push(call)?;
+    }
+    for call in [
+        Call::ETag {
+            source,
+            ordinal,
+            label,
+        },
+        Call::EUntag {
+            source,
+            ordinal,
+            label,
+        },
+        Call::ETags { source, ordinal },
+        Call::ESet {
+            source,
+            ordinal,
+            prop,
+            value: text_value(alloc)?,
+        },
+        Call::EAdd {
+            source,
+            ordinal,
+            prop,
+            value: text_value(alloc)?,
+        },
+        Call::EGet {
+            source,
+            ordinal,
+            prop,
+        },
+        Call::EUnset {
+            source,
+            ordinal,
+            prop,
+        },
+        Call::EProps { source, ordinal },
+        Call::Edges {
+            id,
+            dir: Dir::Undirected,
+            test: Some(every_atom(alloc)?),
+        },
+        Call::Near {
+            id,
+            dir: Dir::Inward,
+        },
+        Call::Degree {
+            id,
+            dir: Dir::Outward,
+        },
+        Call::Find {
+            label,
+            test: Some(every_atom(alloc)?),
+        },
+        Call::Hood { id, depth: 3 },
+        Call::Levels { id },
+        Call::Parts,
+        Call::Scan {
+            label: None,
+            test: None,
+        },
+        Call::Vertices,
+        Call::Arcs,
+    ] {
+        calls.push(call)?;
+    }
+    Ok(calls)
+}
+
+// One reply of each sort.
+fn every_reply(alloc: Global) -> Result<ReplyList, Fail> {
+    let mut names = NameList::new(alloc);
+    names.push(knows()?)?;
+    let mut props = PropList::new(alloc);
+    props.push(PropLine {
+        name: knows()?,
+        value: text_value(alloc)?,
+    })?;
+    let mut edges = EdgeList::new(alloc);
+    edges.push(EdgeLine {
+        inward: false,
+        undirected: true,
+        source: 1,
+        ordinal: 0,
+        target: 2,
+    })?;
+    let mut ids = NumList::new(alloc);
+    ids.push(9)?;
+    let mut pairs = PairList::new(alloc);
+    pairs.push(Pair { id: 4, number: 3 })?;
+    let mut replies = ReplyList::new(alloc);
+    for reply in [
+        Reply::Done,
+        Reply::Yes,
+        Reply::No,
+        Reply::Exists,
+        Reply::NoVertex(7),
+        Reply::NoEdge,
+        Reply::NoLabel,
+        Reply::NoType,
+        Reply::NoProp,
+        Reply::WrongKind,
+        Reply::NotMany,
+        Reply::HasLabel,
+        Reply::LacksLabel,
+        Reply::TooLarge,
+        Reply::EdgeIs(5, 2),
+        Reply::Labels(names),
+        Reply::Props(props),
+        Reply::Value(text_value(alloc)?),
+        Reply::Values(every_value(alloc)?),
+        Reply::Edges(edges),
+        Reply::Ids(ids),
+        Reply::Levels(pairs.copy(alloc)?),
+        Reply::Parts(pairs),
+        Reply::Count(6),
+    ] {
+        replies.push(reply)?;
+    }
+    Ok(replies)
 }

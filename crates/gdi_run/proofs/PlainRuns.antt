@@ -13,8 +13,8 @@ use Rattle.rma_layout.specs.Shape.{Shape, default_shape}
 use Rattle.graph_model.specs.Maps.{has}
 use Rattle.graph_model.specs.Graph.{Graph, empty_graph}
 use Rattle.graph_model.specs.Bare.{IsBareCall, bare_graph}
-use Rattle.graph_model.specs.Calls.{is_writing_call}
-use Rattle.graph_model.specs.Transactions.{is_writing, graph_after_txn, replies_to}
+use Rattle.gdi_kinds.specs.Calls.{is_writing_call, is_writing}
+use Rattle.graph_model.specs.Transactions.{graph_after_txn, replies_to}
 use Rattle.graph_model.specs.Placed.{Placed, placed_from, sections_from, transactions_of}
 use Rattle.graph_model.specs.LegalRun.{IsLegalRun}
 use Rattle.graph_model.proofs.VertexSteps.{is_bucket_full}

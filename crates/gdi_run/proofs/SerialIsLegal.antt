@@ -13,12 +13,13 @@ use Rattle.gdi_kinds.specs.declared.outcome.Line.{Line}
 use Rattle.rma_layout.specs.Shape.{Shape}
 use Rattle.graph_model.specs.Graph.{Graph, empty_graph}
 use Rattle.graph_model.specs.Calls.{graph_after_call}
-use Rattle.graph_model.specs.Transactions.{is_writing, replies_to_calls, graph_after_txn, replies_to}
+use Rattle.gdi_kinds.specs.Calls.{is_writing}
+use Rattle.graph_model.specs.Transactions.{replies_to_calls, graph_after_txn, replies_to}
 use Rattle.graph_model.specs.Capacity.{full_rank}
-use Rattle.graph_model.specs.Placed.{Placed, transactions_of, pairs_of, entry_number, place_of}
+use Rattle.graph_model.specs.Placed.{Placed, transactions_of, pairs_of, entry_number, reading_place}
 use Rattle.graph_model.specs.History.{entry_at, is_entry, graph_after}
 use Rattle.gdi_run.specs.Serial.{ends, entries_after, line_of, next_entries, serial_lines, serial_writes}
-use Rattle.graph_model.specs.LegalRun.{MayEnd, FitsScript, IsDistinct, numbers_of, places_of, Follows, IsInOrder, HasReplies, HasRoom, IsLegalRun}
+use Rattle.graph_model.specs.LegalRun.{MayEnd, FitsScript, IsDistinct, numbers_of, reading_places, MayStandBefore, KeepsSessionOrder, HasReplies, EndsByCapacity, IsLegalRun}
 
 -- what the run needs: no rank is short of blocks at any of them, and one that doesn't write leaves the graph
 abbrev pub Fits : Shape → Graph → List Placed → Type 0
@@ -61,7 +62,7 @@ writes_rise k (p ∷ ps) = omega (arith, entries_rise p.txn.aborts (is_writing p
 
 -- a line's number and place are at least k
 abbrev FromOn : ℕ → Outcome → Type 0
-FromOn k outcome = IfSome (entry_number outcome) (λ n. k ≤ n) × IfSome (place_of outcome) (λ n. k ≤ n)
+FromOn k outcome = IfSome (entry_number outcome) (λ n. k ≤ n) × IfSome (reading_place outcome) (λ n. k ≤ n)
 
 from_on_less : (j k : ℕ) (o : Outcome) → j ≤ k → FromOn k o → FromOn j o
 from_on_less j k (Wrote n rs) le h = (omega (arith, h.0), tt)
@@ -81,7 +82,7 @@ lines_from_on shape g j k (p ∷ ps) le = (
   lines_from_on shape (graph_after_txn shape g p.txn) j (next_entries k p.txn) ps (omega (arith, le, entries_rise p.txn.aborts (is_writing p.txn) k)),
 )
 
-follows : (a w : Bool) (k : ℕ) (rs : List Reply) (later : Outcome) → FromOn (entries_after a w k) later → Follows (ends a w k rs) later
+follows : (a w : Bool) (k : ℕ) (rs : List Reply) (later : Outcome) → FromOn (entries_after a w k) later → MayStandBefore (ends a w k rs) later
 follows true w k rs later h = tt
 follows false true k rs (Wrote n rs') h = (omega (arith, h.0), tt)
 follows false true k rs (Read n rs') h = (tt, omega (arith, h.1))
@@ -90,11 +91,11 @@ follows false true k rs (Full r n) h = (tt, omega (arith, h.1))
 follows false false k rs later h = h
 
 all_follow : (a w : Bool) (k : ℕ) (rs : List Reply) (section : ℕ) (lines : List Line) → AllByRecursion (λ line. FromOn (entries_after a w k) line.outcome) lines
-    → AllByRecursion (λ later. later.section ≡ section → Follows (ends a w k rs) later.outcome) lines
+    → AllByRecursion (λ later. later.section ≡ section → MayStandBefore (ends a w k rs) later.outcome) lines
 all_follow a w k rs section [] h = tt
 all_follow a w k rs section (line ∷ lines) h = (λ _. follows a w k rs line.outcome h.0, all_follow a w k rs section lines h.1)
 
-in_order : (shape : Shape) (g : Graph) (k : ℕ) (ps : List Placed) → IsInOrder (serial_lines shape g k ps)
+in_order : (shape : Shape) (g : Graph) (k : ℕ) (ps : List Placed) → KeepsSessionOrder (serial_lines shape g k ps)
 in_order shape g k [] = tt
 in_order shape g k (p ∷ ps) =
     let next = next_entries k p.txn in (
@@ -107,7 +108,7 @@ record Numbers (k last : ℕ) (lines : List Line) : Type 0 where
   count : last ≡ k + length (numbers_of lines)
   numbers : AllByRecursion (λ n. (k ≤ n) × (n < last)) (numbers_of lines)
   once : IsDistinct (numbers_of lines)
-  places : AllByRecursion (λ n. (k ≤ n) × (n ≤ last)) (places_of lines)
+  places : AllByRecursion (λ n. (k ≤ n) × (n ≤ last)) (reading_places lines)
 
 wider : (j k last : ℕ) (ns : List ℕ) → j ≤ k → AllByRecursion (λ n. (k ≤ n) × (n < last)) ns → AllByRecursion (λ n. (j ≤ n) × (n < last)) ns
 wider j k last [] le h = tt
@@ -195,7 +196,7 @@ replies_hold shape graph g txn true w k here = tt
 replies_hold shape graph g txn false true k here = ap (λ (h : Graph). replies_to shape h txn) here
 replies_hold shape graph g txn false false k here = ap (λ (h : Graph). replies_to shape h txn) here
 
-room_holds : (shape : Shape) (graph : ℕ → Graph) (g : Graph) (txn : Txn) (a w : Bool) (k : ℕ) (rs : List Reply) → g ≡ graph k → full_rank shape g txn ≡ None → HasRoom shape graph txn (ends a w k rs)
+room_holds : (shape : Shape) (graph : ℕ → Graph) (g : Graph) (txn : Txn) (a w : Bool) (k : ℕ) (rs : List Reply) → g ≡ graph k → full_rank shape g txn ≡ None → EndsByCapacity shape graph txn (ends a w k rs)
 room_holds shape graph g txn true w k rs here room = tt
 room_holds shape graph g txn false true k rs here room = ap (λ (h : Graph). full_rank shape h txn) (sym here) ∙ room
 room_holds shape graph g txn false false k rs here room = tt
@@ -206,7 +207,7 @@ module _ (shape : Shape) (pairs : List (Placed × Line)) where
 
   record Hold (rest : List (Placed × Line)) : Type 0 where
     replies : AllByRecursion (λ pair. HasReplies shape graph_at pair.0.txn pair.1.outcome) rest
-    room : AllByRecursion (λ pair. HasRoom shape graph_at pair.0.txn pair.1.outcome) rest
+    room : AllByRecursion (λ pair. EndsByCapacity shape graph_at pair.0.txn pair.1.outcome) rest
 
   all_hold : (before : List (Placed × Line)) (g : Graph) (k : ℕ) (ps : List Placed) → pairs ≡ before ++ zip ps (serial_lines shape g k ps) → AllByRecursion (λ pair. Below k pair.1) before
       → g ≡ graph_at k → Fits shape g ps → Hold (zip ps (serial_lines shape g k ps))
@@ -238,6 +239,7 @@ serial_is_legal shape script fits =
       fits_script = fits_script shape empty_graph 0 ps;
       is_numbered = record { count = numbers.count; numbers = numbers.numbers; once = numbers.once; places = numbers.places };
       in_order = in_order shape empty_graph 0 ps;
+      load_room = tt;
       replies = hold.replies;
       room = hold.room;
     }

@@ -8,7 +8,7 @@ use Rattle.gdi_kinds.specs.declared.edge_line.EdgeLine.{EdgeLine}
 use Rattle.gdi_kinds.specs.declared.prop_line.PropLine.{PropLine}
 use Rattle.gdi_kinds.specs.declared.pair.Pair.{Pair}
 use Rattle.gdi_kinds.specs.declared.reply.Reply.{Reply}
-use Rattle.gdi_kinds.specs.declared.reply.Reply.TheVariants.{Done, Yes, No, Exists, NoVertex, NoEdge, NoLabel, NoType, NoProp, WrongKind, HasLabel, LacksLabel, TooLarge, EdgeIs, Labels, Props, Value as TheValue, Edges, Ids, Levels, Parts, Count}
+use Rattle.gdi_kinds.specs.declared.reply.Reply.TheVariants.{Done, Yes, No, Exists, NoVertex, NoEdge, NoLabel, NoType, NoProp, WrongKind, NotMany, HasLabel, LacksLabel, TooLarge, EdgeIs, Labels, Props, Value as TheValue, Values, Edges, Ids, Levels, Parts, Count}
 use Rattle.gdi_kinds.specs.declared.outcome.Outcome.{Outcome}
 use Rattle.gdi_kinds.specs.declared.outcome.Outcome.TheVariants.{Wrote, Read, Aborted, Full}
 use Rattle.gdi_kinds.specs.declared.outcome.Line.{Line}
@@ -29,7 +29,7 @@ prop_text prop = prop.name ++ 61 ∷ value_text prop.value
 
 abbrev pub edge_text : EdgeLine → List ℕ
 edge_text line =
-    (if line.inward then codes "in" else codes "out")
+    (if line.undirected then codes "und" else (if line.inward then codes "in" else codes "out"))
     ++ 58 ∷ decimal line.source ++ 58 ∷ decimal line.ordinal ++ 58 ∷ decimal line.target
 
 abbrev pub pair_text : Pair → List ℕ
@@ -50,6 +50,7 @@ reply_text NoLabel = codes "nolabel"
 reply_text NoType = codes "notype"
 reply_text NoProp = codes "noprop"
 reply_text WrongKind = codes "wrongkind"
+reply_text NotMany = codes "notmany"
 reply_text HasLabel = codes "haslabel"
 reply_text LacksLabel = codes "lackslabel"
 reply_text TooLarge = codes "toolarge"
@@ -57,6 +58,7 @@ reply_text (EdgeIs source ordinal) = codes "edge " ++ decimal source ++ 32 ∷ d
 reply_text (Labels names) = codes "labels" ++ items_text (λ name. name) names
 reply_text (Props props) = codes "props" ++ items_text prop_text props
 reply_text (TheValue v) = codes "value " ++ value_text v
+reply_text (Values values) = codes "values" ++ items_text value_text values
 reply_text (Edges lines) = codes "edges" ++ items_text edge_text lines
 reply_text (Ids ids) = codes "ids" ++ items_text decimal ids
 reply_text (Levels pairs) = codes "levels" ++ items_text pair_text pairs

@@ -7,7 +7,8 @@ use Rattle.gdi_kinds.specs.declared.outcome.Outcome.TheVariants.{Wrote, Read, Ab
 use Rattle.gdi_kinds.specs.declared.outcome.Line.{Line}
 use Rattle.rma_layout.specs.Shape.{Shape}
 use Rattle.graph_model.specs.Graph.{Graph}
-use Rattle.graph_model.specs.Transactions.{is_writing, graph_after_txn, replies_to}
+use Rattle.gdi_kinds.specs.Calls.{is_writing}
+use Rattle.graph_model.specs.Transactions.{graph_after_txn, replies_to}
 use Rattle.graph_model.specs.Placed.{Placed, placed_from}
 use Rattle.gdi_run.specs.declared.runner.SerialRun.{SerialRun}
 

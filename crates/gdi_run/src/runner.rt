@@ -1,17 +1,14 @@
 ghost use Rattle.std.specs.Prelude.{◌≡◌, ◌+◌, ◌<◌, ◌^◌, [], length, IfOk, OnOk};
 ghost use Rattle.std.specs.List.{AllByRecursion};
+ghost use Rattle.gdi_kinds.specs.Calls.{is_writing};
 ghost use Rattle.rma_layout.specs.Shape.{default_shape};
 ghost use Rattle.graph_model.specs.Bare.{IsBareCall};
-ghost use Rattle.graph_model.specs.Calls.{is_writing_call};
-ghost use Rattle.graph_model.specs.Transactions.{is_writing};
 ghost use Rattle.graph_model.specs.LegalRun.{IsLegalRun};
 ghost use Rattle.gdi_run.specs.ScriptText.{IsPlainScript};
 ghost use Rattle.gdi_run.specs.OutputText.{HasWords};
 ghost use Rattle.gdi_run.specs.Serial.{GoesOn, RunsOne, ends};
 
-use gdi_kinds::{
-    Call, Line, LineList, NoMemory, Outcome, Printed, ReplyList, Script, Section, Txn,
-};
+use gdi_kinds::{Line, LineList, NoMemory, Outcome, Printed, ReplyList, Script, Section, Txn};
 use graph_model::{ModelRefused, PlainGraph};
 use rma_layout::Geometry;
 use std::alloc::Global;
@@ -28,7 +25,7 @@ pub(crate) fn run_script(alloc: Global, script: &Script) -> Result<Printed, NoMe
         writes: 0,
     };
     for (index, section) in script.as_slice().iter().enumerate() {
-        run_section(alloc, &mut run, index as u64 + 1, section)?;
+        run_section(&mut run, index as u64 + 1, section)?;
     }
     let SerialRun {
         graph: _,
@@ -46,34 +43,23 @@ pub(crate) struct SerialRun {
     pub(crate) writes: u64,
 }
 
-fn run_section(
-    alloc: Global,
-    run: &mut SerialRun,
-    number: u64,
-    section: &Section,
-) -> Result<(), NoMemory>
+fn run_section(run: &mut SerialRun, number: u64, section: &Section) -> Result<(), NoMemory>
     requires bare { AllByRecursion (λ txn. AllByRecursion IsBareCall txn.calls) section.now }
     requires room { run.old.writes + length section.now < 2 ^ 64 }
     ensures { OnOk result (GoesOn run.old run.new number 1 section.now) }
 {
     for (index, txn) in section.as_slice().iter().enumerate() {
-        run_txn(alloc, run, number, index as u64 + 1, txn)?;
+        run_txn(run, number, index as u64 + 1, txn)?;
     }
     Ok(())
 }
 
-fn run_txn(
-    alloc: Global,
-    run: &mut SerialRun,
-    section: u64,
-    number: u64,
-    txn: &Txn,
-) -> Result<(), NoMemory>
+fn run_txn(run: &mut SerialRun, section: u64, number: u64, txn: &Txn) -> Result<(), NoMemory>
     requires bare { AllByRecursion IsBareCall txn.now.calls }
     requires room { run.old.writes + 1 < 2 ^ 64 }
     ensures { OnOk result (RunsOne run.old run.new (record { section = section; number = number; txn = txn.now })) }
 {
-    let replies = match run.graph.run(alloc, txn) {
+    let replies = match run.graph.run(txn) {
         Ok(replies) => replies,
         Err(ModelRefused::NoMemory) => return Err(NoMemory),
     };
@@ -95,7 +81,7 @@ fn outcome_of(txn: &Txn, entries: u64, replies: ReplyList) -> Outcome
 {
     if txn.aborts {
         Outcome::Aborted
-    } else if is_writing(txn) {
+    } else if txn.is_writing() {
         Outcome::Wrote {
             k: entries,
             replies,
@@ -105,50 +91,5 @@ fn outcome_of(txn: &Txn, entries: u64, replies: ReplyList) -> Outcome
             place: entries,
             replies,
         }
-    }
-}
-
-fn is_writing(txn: &Txn) -> bool
-    ensures { result ≡ is_writing txn.now }
-{
-    txn.calls.as_slice().iter().any(is_writing_call)
-}
-
-fn is_writing_call(call: &Call) -> bool
-    ensures { result ≡ is_writing_call call.now }
-{
-    match call {
-        Call::NewLabel { .. }
-        | Call::NewType { .. }
-        | Call::Vertex { .. }
-        | Call::DropVertex { .. }
-        | Call::Tag { .. }
-        | Call::Untag { .. }
-        | Call::Set { .. }
-        | Call::Unset { .. }
-        | Call::Edge { .. }
-        | Call::Cut { .. }
-        | Call::ETag { .. }
-        | Call::EUntag { .. }
-        | Call::ESet { .. }
-        | Call::EUnset { .. } => true,
-        Call::Has { .. }
-        | Call::Tags { .. }
-        | Call::Get { .. }
-        | Call::Props { .. }
-        | Call::Target { .. }
-        | Call::ETags { .. }
-        | Call::EGet { .. }
-        | Call::EProps { .. }
-        | Call::Edges { .. }
-        | Call::Near { .. }
-        | Call::Degree { .. }
-        | Call::Find { .. }
-        | Call::Hood { .. }
-        | Call::Levels { .. }
-        | Call::Parts
-        | Call::Scan { .. }
-        | Call::Vertices
-        | Call::Arcs => false,
     }
 }

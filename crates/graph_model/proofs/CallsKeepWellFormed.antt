@@ -15,16 +15,16 @@ use Rattle.gdi_kinds.specs.declared.value.Kind.{Kind}
 use Rattle.gdi_kinds.specs.declared.reply.Reply.TheVariants as reply
 use Rattle.gdi_kinds.specs.Constraint.{kind_of, same_kind}
 use Rattle.gdi_kinds.specs.Names.{IsName}
-use Rattle.graph_model.specs.Maps.{Map, with_at, without, add, take_out, place_where, item_at}
-use Rattle.graph_model.specs.Graph.{Name, PropType, Graph, Vertex, Edge, EdgeKey, edge_cmp, new_vertex, vertex_at, is_vertex, edge_at}
-use Rattle.graph_model.specs.Lookups.{label_number, type_number, kind_at}
+use Rattle.graph_model.specs.Maps.{with_at, without, add, take_out, place_where, item_at}
+use Rattle.graph_model.specs.Graph.{Name, PropType, Props, Graph, Vertex, Edge, EdgeKey, edge_cmp, new_vertex, vertex_at, is_vertex, edge_at}
+use Rattle.graph_model.specs.Lookups.{label_number, type_number, kind_at, is_marked, values_at}
 use Rattle.graph_model.specs.Steps.{◌>>=◌, Step, found_or}
 use Rattle.graph_model.specs.VertexCalls.{with_vertex}
-use Rattle.graph_model.specs.EdgeCalls.{with_edge, label_if_named, last_ordinal}
-use Rattle.graph_model.specs.WellFormed.{AreNames, IsValue, AreLabels, AreProps, VertexFits, EdgeFits, IsWellFormed}
+use Rattle.graph_model.specs.EdgeCalls.{with_edge, label_if_named, ordinals_end}
+use Rattle.graph_model.specs.WellFormed.{AreNames, IsValue, AreLabels, AreValues, AreProps, VertexFits, EdgeFits, IsWellFormed}
 use Rattle.graph_model.proofs.Sets.{is_eq-nat_cmp}
 use Rattle.graph_model.proofs.Entries.{never, All-map, All-filter, All-push, IsMap-filter}
-use Rattle.graph_model.proofs.KeepsWellFormed.{vertex_over, edge_over, vertex_fits, edge_fits, still_there, with_vertex-well, changed_vertex, with_edge-well, changed_edge, place-below, labels-add, labels-take_out, props-with_at, props-without}
+use Rattle.graph_model.proofs.KeepsWellFormed.{vertex_over, edge_over, vertex_fits, edge_fits, still_there, with_vertex-well, changed_vertex, with_edge-well, changed_edge, place-below, labels-add, labels-take_out, props-set, props-add, props-without}
 
 -- a name that isn't there yet
 is_new : (b : Bool) (later : Option ℕ) → is_some (if b then Some 0 else option_map suc later) ≡ false → (b ≡ false) × (is_some later ≡ false)
@@ -66,12 +66,14 @@ new_label g name well here new =
       each_edge = All-map (λ entry. EdgeFits g entry.0 entry.1) (λ entry. EdgeFits h entry.0 entry.1) (λ entry. edge_over g h more (λ _ fit. fit) entry (λ _ below. below) (λ there. there)) g.edges well.each_edge;
     }
 
-pub new_type : (g : Graph) (name : Name) (kind : Kind) → IsWellFormed g → IsName name → is_some (type_number g name) ≡ false → IsWellFormed (record g { types = g.types ++ (record { name = name; kind = kind }) ∷ [] })
-new_type g name kind well here new =
-    let type : PropType = record { name = name; kind = kind } in
+pub new_type : (g : Graph) (name : Name) (kind : Kind) (many : Bool) → IsWellFormed g → IsName name → is_some (type_number g name) ≡ false
+    → IsWellFormed (record g { types = g.types ++ (record { name = name; kind = kind; many = many }) ∷ [] })
+new_type g name kind many well here new =
+    let type : PropType = record { name = name; kind = kind; many = many } in
     let h : Graph = record g { types = g.types ++ type ∷ [] } in
-    let fits : Graph → ℕ × Value → Type 0 = λ k entry. IsValue entry.1 × IsSomeAnd (item_at k.types entry.0) (λ t. t.kind ≡ kind_of entry.1) in
-    let more : (ps : Map ℕ Value) → AreProps g ps → AreProps h ps = λ ps fit. (fit.0, All-map (fits g) (fits h) (λ entry fit. (fit.0, item-push (λ t. t.kind ≡ kind_of entry.1) g.types type entry.0 fit.1)) ps fit.1) in
+    let fits : Graph → ℕ × List Value → Type 0 = λ k entry. IsSomeAnd (item_at k.types entry.0) (λ t. AreValues t entry.1) in
+    let more : (ps : Props) → AreProps g ps → AreProps h ps =
+    λ ps fit. (fit.0, All-map (fits g) (fits h) (λ entry are. item-push (λ t. AreValues t entry.1) g.types type entry.0 are) ps fit.1) in
     record {
       labels = well.labels;
       types = subst AreNames (sym (names-push g.types type)) (AreNames-push name (map (λ t. t.name) g.types) here well.types (sym (ap is_some (place-of_name name g.types)) ∙ new));
@@ -128,10 +130,18 @@ untag g id n v well there =
     changed_vertex g id v (record v { labels = take_out n v.labels }) well there refl (labels-take_out g n v.labels fits.labels) fits.props
 
 pub set_prop : (g : Graph) (id : ℕ) (name : Name) (n : ℕ) (v : Vertex) (value : Value) → IsWellFormed g → IsValue value → type_number g name ≡ Some n → vertex_at g id ≡ Some v
-    → not (same_kind (kind_of value) (kind_at g n)) ≡ false → IsWellFormed (with_vertex g id (record v { props = with_at v.props n value }))
+    → not (same_kind (kind_of value) (kind_at g n)) ≡ false → IsWellFormed (with_vertex g id (record v { props = with_at v.props n (value ∷ []) }))
 set_prop g id name n v value well of_kind known there agrees =
     let fits = vertex_fits g id v well there in
-    changed_vertex g id v (record v { props = with_at v.props n value }) well there refl fits.labels (props-with_at g name n value v.props of_kind known agrees fits.props)
+    changed_vertex g id v (record v { props = with_at v.props n (value ∷ []) }) well there refl fits.labels (props-set g name n value v.props of_kind known agrees fits.props)
+
+pub add_prop : (g : Graph) (id : ℕ) (name : Name) (n : ℕ) (v : Vertex) (value : Value) → IsWellFormed g → IsValue value → type_number g name ≡ Some n → vertex_at g id ≡ Some v
+    → not (same_kind (kind_of value) (kind_at g n)) ≡ false → not (is_marked g n) ≡ false
+    → IsWellFormed (with_vertex g id (record v { props = with_at v.props n (values_at v.props n ++ value ∷ []) }))
+add_prop g id name n v value well of_kind known there agrees marked =
+    let fits = vertex_fits g id v well there in
+    changed_vertex g id v (record v { props = with_at v.props n (values_at v.props n ++ value ∷ []) }) well there refl fits.labels
+    (props-add g name n value v.props of_kind known agrees fits.props marked)
 
 pub unset_prop : (g : Graph) (id n : ℕ) (v : Vertex) → IsWellFormed g → vertex_at g id ≡ Some v → IsWellFormed (with_vertex g id (record v { props = without v.props n }))
 unset_prop g id n v well there =
@@ -151,10 +161,10 @@ named_label g (Some name) =
       | Some n ↦ λ known. ((tt, tt), (place-below (bytes_eq name) g.labels n known, tt))
     ] refl
 
-pub make_edge : (g : Graph) (source target : ℕ) (name : Option Name) (ls : List ℕ) (v : Vertex) → IsWellFormed g → label_if_named g name ≡ Ok ls → vertex_at g source ≡ Some v → not (is_vertex g target) ≡ false
-    → (v.next == last_ordinal) ≡ false → IsWellFormed (with_edge (with_vertex g source (record v { next = v.next + 1 })) source v.next (record { target = target; labels = ls; props = [] }))
-make_edge g source target name ls v well known there ends room =
-    with_edge-well raised source v.next (record { target = target; labels = ls; props = [] }) (with_vertex-well g source w higher well (record { in_range = fits.in_range; next = next; labels = fits.labels; props = fits.props }))
+pub make_edge : (undirected : Bool) (g : Graph) (source target : ℕ) (name : Option Name) (ls : List ℕ) (v : Vertex) → IsWellFormed g → label_if_named g name ≡ Ok ls → vertex_at g source ≡ Some v → not (is_vertex g target) ≡ false
+    → (v.next == ordinals_end) ≡ false → IsWellFormed (with_edge (with_vertex g source (record v { next = v.next + 1 })) source v.next (record { target = target; undirected = undirected; labels = ls; props = [] }))
+make_edge undirected g source target name ls v well known there ends room =
+    with_edge-well raised source v.next (record { target = target; undirected = undirected; labels = ls; props = [] }) (with_vertex-well g source w higher well (record { in_range = fits.in_range; next = next; labels = fits.labels; props = fits.props }))
     (record { source = given_out; target = still_there g source w higher target (not-false _ ends); labels = subst (LabelsFit g) known (named_label g name); props = (refl, tt) })
   where
     w : Vertex
@@ -204,10 +214,18 @@ untag_edge g source ordinal n e well there =
     changed_edge g source ordinal e (record e { labels = take_out n e.labels }) well there refl (labels-take_out g n e.labels fits.labels) fits.props
 
 pub set_edge_prop : (g : Graph) (source ordinal : ℕ) (name : Name) (n : ℕ) (e : Edge) (value : Value) → IsWellFormed g → IsValue value → type_number g name ≡ Some n → edge_at g source ordinal ≡ Some e
-    → not (same_kind (kind_of value) (kind_at g n)) ≡ false → IsWellFormed (with_edge g source ordinal (record e { props = with_at e.props n value }))
+    → not (same_kind (kind_of value) (kind_at g n)) ≡ false → IsWellFormed (with_edge g source ordinal (record e { props = with_at e.props n (value ∷ []) }))
 set_edge_prop g source ordinal name n e value well of_kind known there agrees =
     let fits = edge_fits g source ordinal e well there in
-    changed_edge g source ordinal e (record e { props = with_at e.props n value }) well there refl fits.labels (props-with_at g name n value e.props of_kind known agrees fits.props)
+    changed_edge g source ordinal e (record e { props = with_at e.props n (value ∷ []) }) well there refl fits.labels (props-set g name n value e.props of_kind known agrees fits.props)
+
+pub add_edge_prop : (g : Graph) (source ordinal : ℕ) (name : Name) (n : ℕ) (e : Edge) (value : Value) → IsWellFormed g → IsValue value → type_number g name ≡ Some n → edge_at g source ordinal ≡ Some e
+    → not (same_kind (kind_of value) (kind_at g n)) ≡ false → not (is_marked g n) ≡ false
+    → IsWellFormed (with_edge g source ordinal (record e { props = with_at e.props n (values_at e.props n ++ value ∷ []) }))
+add_edge_prop g source ordinal name n e value well of_kind known there agrees marked =
+    let fits = edge_fits g source ordinal e well there in
+    changed_edge g source ordinal e (record e { props = with_at e.props n (values_at e.props n ++ value ∷ []) }) well there refl fits.labels
+    (props-add g name n value e.props of_kind known agrees fits.props marked)
 
 pub unset_edge_prop : (g : Graph) (source ordinal n : ℕ) (e : Edge) → IsWellFormed g → edge_at g source ordinal ≡ Some e → IsWellFormed (with_edge g source ordinal (record e { props = without e.props n }))
 unset_edge_prop g source ordinal n e well there =

@@ -1,93 +1,26 @@
 -- What components say: the least identifier that a walk joins, directions ignored.
-use Rattle.std.proofs.Common.{◌≡◌, ℕ, zero, suc, ◌+◌, ◌<◌, ◌≤◌, Bool, true, false, ◌||◌, ◌&&◌, List, [], ◌∷◌, length, if◌then◌else◌, Option, Some, None, inl, inr, refl, sym, ap, subst, ◌∙◌, arith, true≢false}
+use Rattle.std.proofs.Common.{◌≡◌, ℕ, zero, suc, ◌+◌, ◌<◌, ◌≤◌, Bool, true, false, ◌||◌, List, [], ◌∷◌, length, if◌then◌else◌, Some, inl, inr, refl, sym, ap, subst, ◌∙◌, arith, true≢false}
 use Rattle.std.specs.Prelude as prelude
-use Rattle.std.specs.Prelude.{◌==◌, IsSome, IsSomeAnd}
-use Rattle.std.specs.List.{AllByRecursion, list_any, range_with_len}
+use Rattle.std.specs.Prelude.{◌==◌, IsSome}
+use Rattle.std.specs.List.{AllByRecursion, list_any, flat_map, range_with_len}
 use Rattle.std.specs.Ordering.{nat_cmp, is_lt}
 use Rattle.std.specs.FinMap.Entries.{below_all, is_sorted}
-use Rattle.std.proofs.lemmas.Bool.{and_parts, and_from, or_cases, or_left, or_right, eqb-true, eqb-false, eq-eqb}
+use Rattle.std.proofs.lemmas.Bool.{and_parts, or_cases, or_left, or_right, eqb-true, eqb-false, eq-eqb}
 use Rattle.std.proofs.lemmas.Bool.Decides.{nat_tests}
 use Rattle.graph_model.specs.Maps.{Map, IsMap, IsSet, keys, has}
-use Rattle.graph_model.specs.Graph.{Graph, Vertex, Edge, EdgeKey, vertex_at}
-use Rattle.graph_model.specs.WellFormed.{EdgeFits, IsWellFormed}
-use Rattle.graph_model.specs.Walks.{is_joined}
+use Rattle.graph_model.specs.Graph.{Graph, Vertex, vertex_at}
+use Rattle.graph_model.specs.WellFormed.{IsWellFormed}
+use Rattle.graph_model.specs.Walks.{both_ways, graph_steps, joining_steps, is_joined}
 use Rattle.graph_model.specs.Laws.{ComponentIsLeast, EachVertexHasAComponent}
 use Rattle.graph_model.proofs.Entries.{same_value, nothing, never}
-use Rattle.graph_model.proofs.Shortest.{IsWalking, shortest_below, reached}
-use Rattle.graph_model.proofs.Levels.{listed, length-keys, least_of}
+use Rattle.graph_model.proofs.Shortest.{shortest_below, reached}
+use Rattle.graph_model.proofs.Levels.{EndsAreThere, leads, walking, led-there, steps-there, listed, length-keys, least_of}
 
--- an edge joins i and t, in this direction or the other
-abbrev links : EdgeKey × Edge → ℕ → (ℕ → Bool) → Bool
-links entry i p = (entry.0.source == i && p entry.1.target) || (entry.1.target == i && p entry.0.source)
-
-abbrev joins_them : Map EdgeKey Edge → ℕ → ℕ → Bool
-joins_them es i t = list_any (λ entry. links entry i (λ k. k == t)) es
-
-one-split : (e : EdgeKey × Edge) (i : ℕ) (p : ℕ → Bool) → links e i p ≡ true → (t : ℕ) × (links e i (λ k. k == t) ≡ true) × (p t ≡ true)
-one-split e i p some =
-    elim (or_cases (e.0.source == i && p e.1.target) (e.1.target == i && p e.0.source) some) [
-      | inl onward ↦
-          let parts = and_parts (e.0.source == i) (p e.1.target) onward in
-          (e.1.target, or_left _ _ (and_from _ _ parts.0 (eq-eqb e.1.target e.1.target refl)), parts.1)
-      | inr back ↦
-          let parts = and_parts (e.1.target == i) (p e.0.source) back in
-          (e.0.source, or_right _ _ (and_from _ _ parts.0 (eq-eqb e.0.source e.0.source refl)), parts.1)
-    ]
-
-one-join : (e : EdgeKey × Edge) (i : ℕ) (p : ℕ → Bool) (t : ℕ) → links e i (λ k. k == t) ≡ true → p t ≡ true → links e i p ≡ true
-one-join e i p t some passes =
-    elim (or_cases (e.0.source == i && e.1.target == t) (e.1.target == i && e.0.source == t) some) [
-      | inl onward ↦
-          let parts = and_parts (e.0.source == i) (e.1.target == t) onward in
-          or_left _ _ (and_from _ _ parts.0 (subst (λ k. p k ≡ true) (sym (eqb-true e.1.target t parts.1)) passes))
-      | inr back ↦
-          let parts = and_parts (e.1.target == i) (e.0.source == t) back in
-          or_right _ _ (and_from _ _ parts.0 (subst (λ k. p k ≡ true) (sym (eqb-true e.0.source t parts.1)) passes))
-    ]
-
-any-split : (es : Map EdgeKey Edge) (i : ℕ) (p : ℕ → Bool) → list_any (λ entry. links entry i p) es ≡ true → (t : ℕ) × (joins_them es i t ≡ true) × (p t ≡ true)
-any-split [] i p some = never some
-any-split (e ∷ es) i p some =
-    elim (or_cases (links e i p) _ some) [
-      | inl first ↦
-          let one = one-split e i p first in
-          (one.0, or_left _ _ one.1, one.2)
-      | inr later ↦
-          let rest = any-split es i p later in
-          (rest.0, or_right _ _ rest.1, rest.2)
-    ]
-
-any-join : (es : Map EdgeKey Edge) (i : ℕ) (p : ℕ → Bool) (t : ℕ) → joins_them es i t ≡ true → p t ≡ true → list_any (λ entry. links entry i p) es ≡ true
-any-join [] i p t some passes = never some
-any-join (e ∷ es) i p t some passes =
-    elim (or_cases (links e i (λ k. k == t)) _ some) [
-      | inl first ↦ or_left _ _ (one-join e i p t first passes)
-      | inr later ↦ or_right _ _ (any-join es i p t later passes)
-    ]
-
-joining : (g : Graph) → IsWalking (is_joined g) (λ i t. joins_them g.edges i t ≡ true)
-joining g = record {
-  here = λ i j walk. eqb-true i j walk;
-  stays = λ i. eq-eqb i i refl;
-  splits = λ n i j walk. any-split g.edges i (λ t. is_joined g n t j) walk;
-  joins = λ n i t j step walk. any-join g.edges i (λ k. is_joined g n k j) t step walk;
-}
-
-some-there : (o : Option Vertex) (P : Vertex → Type 0) → IsSomeAnd o P → IsSome o
-some-there None P there = absurd there
-some-there (Some v) P there = refl
-
-end-there : (g : Graph) (es : Map EdgeKey Edge) → AllByRecursion (λ entry. EdgeFits g entry.0 entry.1) es → (i t : ℕ) → joins_them es i t ≡ true → IsSome (vertex_at g t)
-end-there g [] all i t some = never some
-end-there g (e ∷ es) all i t some =
-    elim (or_cases (links e i (λ k. k == t)) _ some) [
-      | inl first ↦ elim (or_cases (e.0.source == i && e.1.target == t) (e.1.target == i && e.0.source == t) first) [
-        | inl onward ↦ subst (λ k. IsSome (vertex_at g k)) (eqb-true e.1.target t (and_parts (e.0.source == i) (e.1.target == t) onward).1) all.0.target
-        | inr back ↦ subst (λ k. IsSome (vertex_at g k)) (eqb-true e.0.source t (and_parts (e.1.target == i) (e.0.source == t) back).1)
-            (some-there (vertex_at g e.0.source) (λ v. e.0.ordinal < v.next) all.0.source)
-      ]
-      | inr later ↦ end-there g es all.1 i t later
-    ]
+-- each step may be taken back
+joining-there : (g : Graph) (steps : List (ℕ × ℕ)) → AllByRecursion (EndsAreThere g) steps
+    → AllByRecursion (EndsAreThere g) (flat_map (λ step. both_ways step.0 step.1) steps)
+joining-there g [] all = tt
+joining-there g (s ∷ ss) all = (all.0, ((all.0.1, all.0.0), joining-there g ss all.1))
 
 -- the keys of a map rise
 less-than : (a b : ℕ) → is_lt (nat_cmp a b) ≡ true → a < b
@@ -160,17 +93,22 @@ any-one p [] some = never some
 any-one p (k ∷ ks) some = elim (or_cases (p k) (list_any p ks) some) [ inl here ↦ (k, here) | inr later ↦ any-one p ks later ]
 
 module _ (g : Graph) (i : ℕ) (well : IsWellFormed g) (there : IsSome (vertex_at g i)) where
-  -- a walk of few edges joins i with this identifier
+  -- a walk of few steps joins i with this identifier
   abbrev joined_soon : ℕ → Bool
   joined_soon k = list_any (λ n. is_joined g n i k) (range_with_len 0 (length g.vertices))
 
+  ends : (a t : ℕ) → leads (joining_steps g) a t ≡ true → IsSome (vertex_at g t)
+  ends = led-there g (joining_steps g) (joining-there g (graph_steps g) (steps-there g g.edges well.each_edge))
+
   joined_there : (m k : ℕ) → is_joined g m i k ≡ true → has (keys g.vertices) k ≡ true
-  joined_there m k walk = listed g k (reached (is_joined g) (λ a t. joins_them g.edges a t ≡ true) (joining g) (λ x. IsSome (vertex_at g x)) (end-there g g.edges well.each_edge) m i k there walk)
+  joined_there m k walk =
+      listed g k (reached (is_joined g) (λ a t. leads (joining_steps g) a t ≡ true) (walking (joining_steps g)) (λ x. IsSome (vertex_at g x)) ends m i k there walk)
 
   soon : (m k : ℕ) → is_joined g m i k ≡ true → joined_soon k ≡ true
   soon m k walk =
       let least = least_of (λ n. is_joined g n i k) m walk in
-      let few = shortest_below (is_joined g) (λ a t. joins_them g.edges a t ≡ true) (joining g) (keys g.vertices) (λ x. IsSome (vertex_at g x)) (end-there g g.edges well.each_edge) (listed g) least.0 i k there least.1 least.2 in
+      let few = shortest_below (is_joined g) (λ a t. leads (joining_steps g) a t ≡ true) (walking (joining_steps g)) (keys g.vertices)
+      (λ x. IsSome (vertex_at g x)) ends (listed g) least.0 i k there least.1 least.2 in
       any-in_range (λ n. is_joined g n i k) 0 (length g.vertices) least.0 (omega arith) (omega (arith, few, length-keys g.vertices)) least.1
 
 pub component_least : ComponentIsLeast

@@ -1,5 +1,6 @@
 -- Lists of entries: what keeps them in order, and what holds of each.
-use Rattle.std.proofs.Common.{◌≡◌, ℕ, Bool, true, false, cond, List, [], ◌∷◌, ◌++◌, Some, None, is_some, refl, sym, ap, subst, true≢false}
+use Rattle.std.proofs.Common.{◌≡◌, ℕ, Bool, true, false, cond, List, [], ◌∷◌, ◌++◌, Option, Some, None, is_some, refl, sym, ap, subst, true≢false}
+use Rattle.std.specs.Prelude.{IsSome, IsSomeAnd}
 use Rattle.std.proofs.Math.Dec.{T}
 use Rattle.std.specs.List.{AllByRecursion, filter}
 use Rattle.std.specs.Option.{unwrap_or}
@@ -22,6 +23,10 @@ nothing x is = absurd (true≢false (sym (ap is_some is)))
 
 pub never : {A : Type 0} → false ≡ true → A
 never is = absurd (true≢false (sym is))
+
+pub some-there : {X : Type 0} (o : Option X) (P : X → Type 0) → IsSomeAnd o P → IsSome o
+some-there None P there = absurd there
+some-there (Some v) P there = refl
 
 is_true : (b : Bool) → T b → b ≡ true
 is_true true h = refl

@@ -1,7 +1,8 @@
 -- What each change of a graph keeps well formed.
-use Rattle.std.proofs.Common.{◌≡◌, ℕ, zero, suc, ◌^◌, ◌<◌, Bool, true, false, cond, not, List, [], ◌∷◌, length, if◌then◌else◌, Some, None, refl, sym, subst, arith}
+use Rattle.std.proofs.Common.{◌≡◌, ℕ, zero, suc, ◌^◌, ◌<◌, Bool, true, false, cond, not, List, [], ◌∷◌, ◌++◌, ◌∙◌, length, if◌then◌else◌, Option, Some, None, refl, sym, subst, arith, true≢false, length-append}
 use Rattle.std.specs.Prelude.{◌==◌, IsSome, IsSomeAnd}
-use Rattle.std.specs.Option.{option_map, option_map_or}
+use Rattle.std.specs.List.{AllByRecursion}
+use Rattle.std.specs.Option.{option_map, option_map_or, unwrap_or}
 use Rattle.std.specs.Ordering.{nat_cmp, is_eq, eq_by_cmp}
 use Rattle.std.specs.declared.cmp.Ordering.TheVariants.{Less, Equal, Greater}
 use Rattle.std.specs.Str.{bytes_eq}
@@ -13,17 +14,17 @@ use Rattle.gdi_kinds.specs.declared.value.Value.{Value}
 use Rattle.gdi_kinds.specs.declared.value.Kind.{Kind}
 use Rattle.gdi_kinds.specs.declared.value.Kind.TheVariants as kind
 use Rattle.gdi_kinds.specs.Constraint.{kind_of, same_kind}
-use Rattle.graph_model.specs.Maps.{Map, with_at, without, add, take_out, place_where, item_at}
-use Rattle.graph_model.specs.Graph.{Name, Graph, Vertex, Edge, EdgeKey, edge_cmp, vertex_at, edge_at}
-use Rattle.graph_model.specs.Lookups.{label_number, type_number, kind_at}
+use Rattle.graph_model.specs.Maps.{at, with_at, without, add, take_out, place_where, item_at}
+use Rattle.graph_model.specs.Graph.{Name, PropType, Props, Graph, Vertex, Edge, EdgeKey, edge_cmp, vertex_at, edge_at}
+use Rattle.graph_model.specs.Lookups.{label_number, type_number, kind_at, is_marked, values_at}
 use Rattle.graph_model.specs.VertexCalls.{with_vertex}
 use Rattle.graph_model.specs.EdgeCalls.{with_edge}
-use Rattle.graph_model.specs.WellFormed.{IsValue, AreLabels, AreProps, VertexFits, EdgeFits, IsWellFormed}
+use Rattle.graph_model.specs.WellFormed.{IsValue, AreLabels, AreValues, AreProps, VertexFits, EdgeFits, IsWellFormed}
 use Rattle.graph_model.proofs.Sets.{IsSet-add, AllByRecursion-add}
-use Rattle.graph_model.proofs.Entries.{same_value, nothing, never, All-map, All-filter, IsSet-filter, IsMap-put, IsMap-filter, All-put, All-find, edge_cmp_total, edge_cmp_same}
+use Rattle.graph_model.proofs.Entries.{same_value, nothing, never, All-map, All-filter, All-push, IsSet-filter, IsMap-put, IsMap-filter, All-put, All-find, edge_cmp_total, edge_cmp_same}
 
 -- what fits a graph fits another that has its labels, its types and, for an edge, its vertices
-module _ (g h : Graph) (labels : (ls : List ℕ) → AreLabels g ls → AreLabels h ls) (props : (ps : Map ℕ Value) → AreProps g ps → AreProps h ps) where
+module _ (g h : Graph) (labels : (ls : List ℕ) → AreLabels g ls → AreLabels h ls) (props : (ps : Props) → AreProps g ps → AreProps h ps) where
   pub vertex_over : (entry : ℕ × Vertex) → VertexFits g entry.0 entry.1 → VertexFits h entry.0 entry.1
   vertex_over entry fits = record { in_range = fits.in_range; next = fits.next; labels = labels _ fits.labels; props = props _ fits.props }
 
@@ -125,9 +126,22 @@ labels-add g name n ls known fit = (IsSet-add n ls fit.0, AllByRecursion-add (λ
 pub labels-take_out : (g : Graph) (n : ℕ) (ls : List ℕ) → AreLabels g ls → AreLabels g (take_out n ls)
 labels-take_out g n ls fit = (IsSet-filter (λ m. not (m == n)) ls fit.0, All-filter (λ m. m < length g.labels) (λ m. m < length g.labels) (λ m. not (m == n)) (λ _ _ below. below) ls fit.1)
 
--- a value of a type of the graph, of its kind
-abbrev HasType : Graph → ℕ × Value → Type 0
-HasType g entry = IsValue entry.1 × IsSomeAnd (item_at g.types entry.0) (λ type. type.kind ≡ kind_of entry.1)
+-- values of a type of the graph
+abbrev HasType : Graph → ℕ × List Value → Type 0
+HasType g entry = IsSomeAnd (item_at g.types entry.0) (λ type. AreValues type entry.1)
+
+some-more : (found : Option PropType) (P Q R : PropType → Type 0) → ((type : PropType) → P type → Q type → R type)
+    → IsSomeAnd found P → IsSomeAnd found Q → IsSomeAnd found R
+some-more None P Q R f p q = p
+some-more (Some type) P Q R f p q = f type p q
+
+value-push : (type : PropType) (vs : List Value) (v : Value) → IsValue v → type.kind ≡ kind_of v → type.many ≡ true
+    → AllByRecursion (λ value. IsValue value × (type.kind ≡ kind_of value)) vs → AreValues type (vs ++ v ∷ [])
+value-push type vs v fits of_kind many each = record {
+  each = All-push (λ value. IsValue value × (type.kind ≡ kind_of value)) vs v each (fits, of_kind);
+  some = omega (arith, length-append vs (v ∷ []));
+  single = λ alone. absurd (true≢false (sym many ∙ alone));
+}
 
 pub type-kind : (g : Graph) (name : Name) (n : ℕ) (v : Value) → type_number g name ≡ Some n → not (same_kind (kind_of v) (kind_at g n)) ≡ false → IsSomeAnd (item_at g.types n) (λ type. type.kind ≡ kind_of v)
 type-kind g name n v known agrees =
@@ -136,9 +150,46 @@ type-kind g name n v known agrees =
       | Some type ↦ λ _ same. same_kind-true (kind_of v) type.kind same
     ] (item-there g.types n (place-below (λ type. bytes_eq name type.name) g.types n known)) (not-false _ agrees)
 
-pub props-with_at : (g : Graph) (name : Name) (n : ℕ) (v : Value) (ps : Map ℕ Value) → IsValue v → type_number g name ≡ Some n → not (same_kind (kind_of v) (kind_at g n)) ≡ false → AreProps g ps → AreProps g (with_at ps n v)
-props-with_at g name n v ps fits known agrees fit =
-    (IsMap-put nat_cmp nat_cmp_total n v ps fit.0, All-put nat_cmp nat_cmp-IsAntisymmetric (HasType g) n v ps (fits, type-kind g name n v known agrees) fit.1)
+type-marked : (g : Graph) (n : ℕ) → not (is_marked g n) ≡ false
+    → IsSomeAnd (item_at g.types n) (λ type. type.kind ≡ type.kind) → IsSomeAnd (item_at g.types n) (λ type. type.many ≡ true)
+type-marked g n marked there =
+    elim (item_at g.types n) as (λ found. option_map_or (λ type. type.many) found false ≡ true → IsSomeAnd found (λ type. type.kind ≡ type.kind) → IsSomeAnd found (λ type. type.many ≡ true)) [
+      | None ↦ λ _ there. there
+      | Some type ↦ λ many _. many
+    ] (not-false _ marked) there
 
-pub props-without : (g : Graph) (n : ℕ) (ps : Map ℕ Value) → AreProps g ps → AreProps g (without ps n)
+props-put : (g : Graph) (n : ℕ) (vs : List Value) (ps : Props) → IsSomeAnd (item_at g.types n) (λ type. AreValues type vs)
+    → AreProps g ps → AreProps g (with_at ps n vs)
+props-put g n vs ps here fit =
+    (IsMap-put nat_cmp nat_cmp_total n vs ps fit.0, All-put nat_cmp nat_cmp-IsAntisymmetric (HasType g) n vs ps here fit.1)
+
+-- a value of a known type's kind
+module _ (g : Graph) (name : Name) (n : ℕ) (v : Value) (ps : Props) (fits : IsValue v) (known : type_number g name ≡ Some n)
+    (agrees : not (same_kind (kind_of v) (kind_at g n)) ≡ false) (fit : AreProps g ps) where
+  of_kind : IsSomeAnd (item_at g.types n) (λ type. type.kind ≡ kind_of v)
+  of_kind = type-kind g name n v known agrees
+
+  pub props-set : AreProps g (with_at ps n (v ∷ []))
+  props-set =
+      props-put g n (v ∷ []) ps
+      (some-more (item_at g.types n) (λ type. type.kind ≡ kind_of v) (λ type. type.kind ≡ kind_of v) (λ type. AreValues type (v ∷ []))
+      (λ type is _. record { each = ((fits, is), tt); some = omega arith; single = λ _. refl }) of_kind of_kind) fit
+
+  -- and the values before it, if the type is marked
+  pub props-add : not (is_marked g n) ≡ false → AreProps g (with_at ps n (values_at ps n ++ v ∷ []))
+  props-add marked =
+      props-put g n (values_at ps n ++ v ∷ []) ps
+      (elim (at ps n) as (λ found. at ps n ≡ found → IsSomeAnd (item_at g.types n) (λ type. AreValues type (unwrap_or found [] ++ v ∷ []))) [
+        | None ↦ λ _. some-more (item_at g.types n) (λ type. type.kind ≡ kind_of v) (λ type. type.many ≡ true) (λ type. AreValues type (v ∷ []))
+            (λ type is many. value-push type [] v fits is many tt) of_kind many
+        | Some vs ↦ λ there.
+            let before = All-find nat_cmp nat_cmp-IsAntisymmetric (HasType g) n vs ps fit.1 there in
+            some-more (item_at g.types n) (λ type. (type.kind ≡ kind_of v) × (type.many ≡ true)) (λ type. AreValues type vs) (λ type. AreValues type (vs ++ v ∷ []))
+            (λ type is are. value-push type vs v fits is.0 is.1 are.each) (some-more (item_at g.types n) _ _ _ (λ type is yes. (is, yes)) of_kind many) before
+      ] refl) fit
+    where
+      many : IsSomeAnd (item_at g.types n) (λ type. type.many ≡ true)
+      many = type-marked g n marked (some-more (item_at g.types n) _ _ (λ type. type.kind ≡ type.kind) (λ type _ _. refl) of_kind of_kind)
+
+pub props-without : (g : Graph) (n : ℕ) (ps : Props) → AreProps g ps → AreProps g (without ps n)
 props-without g n ps fit = (IsMap-filter nat_cmp (λ entry. not (entry.0 == n)) ps fit.0, All-filter (HasType g) (HasType g) (λ entry. not (entry.0 == n)) (λ _ _ fits. fits) ps fit.1)

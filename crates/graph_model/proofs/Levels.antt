@@ -1,61 +1,79 @@
--- What levels say: the least number of edges of a walk, where there is one.
-use Rattle.std.proofs.Common.{◌≡◌, ℕ, zero, suc, ◌+◌, ◌<◌, ◌≤◌, Bool, true, false, ◌&&◌, [], ◌∷◌, length, if◌then◌else◌, Some, None, inl, inr, refl, sym, ap, subst, ◌∙◌, arith, eqb}
+-- What levels say: the least number of steps of a walk, where there is one.
+use Rattle.std.proofs.Common.{◌≡◌, ℕ, zero, suc, ◌+◌, ◌<◌, ◌≤◌, Bool, true, false, ◌&&◌, List, [], ◌∷◌, ◌++◌, length, if◌then◌else◌, Some, None, inl, inr, refl, sym, ap, subst, ◌∙◌, arith, eqb}
 use Rattle.std.specs.Prelude as prelude
-use Rattle.std.specs.Prelude.{◌==◌, IsSome, is_some}
-use Rattle.std.specs.List.{AllByRecursion, list_any, range_with_len}
+use Rattle.std.specs.Prelude.{◌==◌, IsSome}
+use Rattle.std.specs.List.{AllByRecursion, list_any, flat_map, range_with_len}
 use Rattle.std.specs.Ordering.{nat_cmp}
 use Rattle.std.specs.FinMap.Entries.{is_some-find}
 use Rattle.std.proofs.lemmas.Bool.{and_parts, and_from, or_cases, or_left, or_right, eqb-true, eqb-false, eq-eqb}
 use Rattle.graph_model.specs.Maps.{Map, keys, has}
 use Rattle.graph_model.specs.Graph.{Graph, Vertex, Edge, EdgeKey, vertex_at}
 use Rattle.graph_model.specs.WellFormed.{EdgeFits}
-use Rattle.graph_model.specs.Walks.{is_walk}
+use Rattle.graph_model.specs.Walks.{both_ways, steps_over, graph_steps, is_walk_by, is_walk}
 use Rattle.graph_model.specs.Laws.{LevelIsLeast, EachWalkHasALevel}
 use Rattle.graph_model.proofs.Sets.{is_eq-nat_cmp}
-use Rattle.graph_model.proofs.Entries.{same_value, nothing, never}
+use Rattle.graph_model.proofs.Entries.{same_value, nothing, never, some-there}
 use Rattle.graph_model.proofs.Short.{find-in_range}
 use Rattle.graph_model.proofs.Shortest.{IsWalking, shortest_below}
 
--- an edge leads from i to t
-abbrev leads : Map EdgeKey Edge → ℕ → ℕ → Bool
-leads es i t = list_any (λ entry. entry.0.source == i && entry.1.target == t) es
+-- a step leads from i to t
+abbrev pub leads : List (ℕ × ℕ) → ℕ → ℕ → Bool
+leads steps i t = list_any (λ step. step.0 == i && step.1 == t) steps
 
-any-split : (es : Map EdgeKey Edge) (i : ℕ) (p : ℕ → Bool) → list_any (λ entry. entry.0.source == i && p entry.1.target) es ≡ true → (t : ℕ) × (leads es i t ≡ true) × (p t ≡ true)
+any-split : (steps : List (ℕ × ℕ)) (i : ℕ) (p : ℕ → Bool) → list_any (λ step. step.0 == i && p step.1) steps ≡ true
+    → (t : ℕ) × (leads steps i t ≡ true) × (p t ≡ true)
 any-split [] i p some = never some
-any-split (e ∷ es) i p some =
-    elim (or_cases (e.0.source == i && p e.1.target) _ some) [
+any-split (s ∷ ss) i p some =
+    elim (or_cases (s.0 == i && p s.1) _ some) [
       | inl first ↦
-          let parts = and_parts (e.0.source == i) (p e.1.target) first in
-          (e.1.target, or_left _ _ (and_from _ _ parts.0 (eq-eqb e.1.target e.1.target refl)), parts.1)
+          let parts = and_parts (s.0 == i) (p s.1) first in
+          (s.1, or_left _ _ (and_from _ _ parts.0 (eq-eqb s.1 s.1 refl)), parts.1)
       | inr later ↦
-          let rest = any-split es i p later in
+          let rest = any-split ss i p later in
           (rest.0, or_right _ _ rest.1, rest.2)
     ]
 
-any-join : (es : Map EdgeKey Edge) (i : ℕ) (p : ℕ → Bool) (t : ℕ) → leads es i t ≡ true → p t ≡ true → list_any (λ entry. entry.0.source == i && p entry.1.target) es ≡ true
+any-join : (steps : List (ℕ × ℕ)) (i : ℕ) (p : ℕ → Bool) (t : ℕ) → leads steps i t ≡ true → p t ≡ true
+    → list_any (λ step. step.0 == i && p step.1) steps ≡ true
 any-join [] i p t some passes = never some
-any-join (e ∷ es) i p t some passes =
-    elim (or_cases (e.0.source == i && e.1.target == t) _ some) [
+any-join (s ∷ ss) i p t some passes =
+    elim (or_cases (s.0 == i && s.1 == t) _ some) [
       | inl first ↦
-          let parts = and_parts (e.0.source == i) (e.1.target == t) first in
-          or_left _ _ (and_from _ _ parts.0 (subst (λ k. p k ≡ true) (sym (eqb-true e.1.target t parts.1)) passes))
-      | inr later ↦ or_right _ _ (any-join es i p t later passes)
+          let parts = and_parts (s.0 == i) (s.1 == t) first in
+          or_left _ _ (and_from _ _ parts.0 (subst (λ k. p k ≡ true) (sym (eqb-true s.1 t parts.1)) passes))
+      | inr later ↦ or_right _ _ (any-join ss i p t later passes)
     ]
 
-walking : (g : Graph) → IsWalking (is_walk g) (λ i t. leads g.edges i t ≡ true)
-walking g = record {
+pub walking : (steps : List (ℕ × ℕ)) → IsWalking (is_walk_by steps) (λ i t. leads steps i t ≡ true)
+walking steps = record {
   here = λ i j walk. eqb-true i j walk;
   stays = λ i. eq-eqb i i refl;
-  splits = λ n i j walk. any-split g.edges i (λ t. is_walk g n t j) walk;
-  joins = λ n i t j step walk. any-join g.edges i (λ k. is_walk g n k j) t step walk;
+  splits = λ n i j walk. any-split steps i (λ t. is_walk_by steps n t j) walk;
+  joins = λ n i t j step walk. any-join steps i (λ k. is_walk_by steps n k j) t step walk;
 }
 
-target-there : (g : Graph) (es : Map EdgeKey Edge) → AllByRecursion (λ entry. EdgeFits g entry.0 entry.1) es → (i t : ℕ) → leads es i t ≡ true → IsSome (vertex_at g t)
-target-there g [] all i t some = never some
-target-there g (e ∷ es) all i t some =
-    elim (or_cases (e.0.source == i && e.1.target == t) _ some) [
-      | inl first ↦ subst (λ k. IsSome (vertex_at g k)) (eqb-true e.1.target t (and_parts (e.0.source == i) (e.1.target == t) first).1) all.0.target
-      | inr later ↦ target-there g es all.1 i t later
+-- both ends of a step are vertices
+abbrev pub EndsAreThere : Graph → ℕ × ℕ → Type 0
+EndsAreThere g step = IsSome (vertex_at g step.0) × IsSome (vertex_at g step.1)
+
+pub led-there : (g : Graph) (steps : List (ℕ × ℕ)) → AllByRecursion (EndsAreThere g) steps → (i t : ℕ) → leads steps i t ≡ true
+    → IsSome (vertex_at g t)
+led-there g [] all i t some = never some
+led-there g (s ∷ ss) all i t some =
+    elim (or_cases (s.0 == i && s.1 == t) _ some) [
+      | inl first ↦ subst (λ k. IsSome (vertex_at g k)) (eqb-true s.1 t (and_parts (s.0 == i) (s.1 == t) first).1) all.0.1
+      | inr later ↦ led-there g ss all.1 i t later
+    ]
+
+pub steps-there : (g : Graph) (es : Map EdgeKey Edge) → AllByRecursion (λ entry. EdgeFits g entry.0 entry.1) es
+    → AllByRecursion (EndsAreThere g) (flat_map steps_over es)
+steps-there g [] all = tt
+steps-there g (e ∷ es) all =
+    let source = some-there (vertex_at g e.0.source) (λ v. e.0.ordinal < v.next) all.0.source in
+    let target = all.0.target in
+    elim e.1.undirected as (λ b. AllByRecursion (EndsAreThere g) ((if b then both_ways e.0.source e.1.target else (e.0.source, e.1.target) ∷ []) ++ flat_map steps_over es)) [
+      | true ↦ ((source, target), ((target, source), steps-there g es all.1))
+      | false ↦ ((source, target), steps-there g es all.1)
     ]
 
 pub listed : (g : Graph) (x : ℕ) → IsSome (vertex_at g x) → has (keys g.vertices) x ≡ true
@@ -99,5 +117,7 @@ least_of p m passes =
 pub walk_level : EachWalkHasALevel
 walk_level g i j m well there walk =
     let least = least_of (λ n. is_walk g n i j) m walk in
-    let few = shortest_below (is_walk g) (λ a t. leads g.edges a t ≡ true) (walking g) (keys g.vertices) (λ x. IsSome (vertex_at g x)) (target-there g g.edges well.each_edge) (listed g) least.0 i j there least.1 least.2 in
+    let ends = led-there g (graph_steps g) (steps-there g g.edges well.each_edge) in
+    let few = shortest_below (is_walk g) (λ a t. leads (graph_steps g) a t ≡ true) (walking (graph_steps g)) (keys g.vertices)
+    (λ x. IsSome (vertex_at g x)) ends (listed g) least.0 i j there least.1 least.2 in
     find-in_range (λ n. is_walk g n i j) 0 (length g.vertices) least.0 (omega arith) (omega (arith, few, length-keys g.vertices)) least.1

@@ -13,7 +13,7 @@ use Rattle.graph_model.specs.Graph.{Graph}
 use Rattle.graph_model.specs.Maps.{item_at}
 use Rattle.graph_model.specs.Placed.{Placed, pairs_of, transactions_of, entry_number}
 use Rattle.graph_model.specs.History.{load_entries, is_entry, entry_at}
-use Rattle.graph_model.specs.LegalRun.{MayEnd, FitsScript, IsDistinct, numbers_of, HasReplies, HasRoom, graph_of_run}
+use Rattle.graph_model.specs.LegalRun.{MayEnd, FitsScript, IsDistinct, numbers_of, HasReplies, EndsByCapacity, EntriesHaveRoom, graph_of_run}
 use Rattle.graph_model.specs.MovedPlaces.{IsMoved, AreMoved, ReadingPlacesMayMove}
 use Rattle.graph_model.proofs.Transactions.{looks_at_entries}
 
@@ -29,9 +29,9 @@ same_ending : (txn : Txn) (a b : Outcome) → IsMoved a b → MayEnd txn a → M
 same_ending txn (Read place replies) (Read other others) moved ends = (ends.0, ends.1, subst (λ rs. length rs ≡ length txn.calls) moved ends.2)
 same_ending txn a b moved ends = subst (MayEnd txn) moved ends
 
-same_room : (shape : Shape) (graph : ℕ → Graph) (txn : Txn) (a b : Outcome) → IsMoved a b → HasRoom shape graph txn a → HasRoom shape graph txn b
+same_room : (shape : Shape) (graph : ℕ → Graph) (txn : Txn) (a b : Outcome) → IsMoved a b → EndsByCapacity shape graph txn a → EndsByCapacity shape graph txn b
 same_room shape graph txn (Read place replies) (Read other others) moved room = tt
-same_room shape graph txn a b moved room = subst (HasRoom shape graph txn) moved room
+same_room shape graph txn a b moved room = subst (EndsByCapacity shape graph txn) moved room
 
 fits-moved : (placed : List Placed) (ls ms : List Line) → AreMoved ls ms → FitsScript placed ls → FitsScript placed ms
 fits-moved [] [] [] moved fits = tt
@@ -42,8 +42,8 @@ fits-moved (p ∷ ps) (l ∷ ls) [] moved fits = absurd moved
 fits-moved (p ∷ ps) (l ∷ ls) (m ∷ ms) moved fits =
     ((sym moved.0 ∙ fits.0.0, sym moved.1 ∙ fits.0.1, same_ending p.txn l.outcome m.outcome moved.2 fits.0.2), fits-moved ps ls ms moved.3 fits.1)
 
-room-moved : (shape : Shape) (graph : ℕ → Graph) (placed : List Placed) (ls ms : List Line) → AreMoved ls ms → AllByRecursion (λ pair. HasRoom shape graph pair.0.txn pair.1.outcome) (zip placed ls)
-    → AllByRecursion (λ pair. HasRoom shape graph pair.0.txn pair.1.outcome) (zip placed ms)
+room-moved : (shape : Shape) (graph : ℕ → Graph) (placed : List Placed) (ls ms : List Line) → AreMoved ls ms → AllByRecursion (λ pair. EndsByCapacity shape graph pair.0.txn pair.1.outcome) (zip placed ls)
+    → AllByRecursion (λ pair. EndsByCapacity shape graph pair.0.txn pair.1.outcome) (zip placed ms)
 room-moved shape graph [] ls ms moved room = tt
 room-moved shape graph (p ∷ ps) [] [] moved room = tt
 room-moved shape graph (p ∷ ps) [] (m ∷ ms) moved room = absurd moved
@@ -85,8 +85,9 @@ reading_places_move shape load script run moved legal moves =
         places = moves.places;
       };
       in_order = moves.in_order;
+      load_room = subst (λ graph. EntriesHaveRoom shape graph 0 (load_entries load)) graphs legal.load_room;
       replies = subst (λ graph. AllByRecursion (λ pair. HasReplies shape graph pair.0.txn pair.1.outcome) (pairs_of script moved.lines)) graphs moves.replies;
-      room = subst (λ graph. AllByRecursion (λ pair. HasRoom shape graph pair.0.txn pair.1.outcome) (pairs_of script moved.lines)) graphs (room-moved shape _ (transactions_of script) run.lines moved.lines moves.lines legal.room);
+      room = subst (λ graph. AllByRecursion (λ pair. EndsByCapacity shape graph pair.0.txn pair.1.outcome) (pairs_of script moved.lines)) graphs (room-moved shape _ (transactions_of script) run.lines moved.lines moves.lines legal.room);
     }
   where
     first : ℕ

@@ -1,5 +1,5 @@
 -- Where there is room: how many blocks bare graphs use and need at most.
-use Rattle.std.proofs.Common.{◌≡◌, ℕ, suc, ◌+◌, ◌*◌, ◌-◌, ◌≤◌, Bool, true, false, cond, ◌||◌, not, List, [], ◌∷◌, ◌++◌, map, length, get_or, if◌then◌else◌, Option, Some, None, refl, ap, sym, subst, ◌∙◌, arith, eqb, ltb}
+use Rattle.std.proofs.Common.{◌≡◌, ℕ, suc, ◌+◌, ◌*◌, ◌-◌, ◌≤◌, Bool, true, false, cond, ◌||◌, not, List, [], ◌∷◌, ◌++◌, map, length, get_or, if◌then◌else◌, Option, Some, None, refl, ap, subst, ◌∙◌, arith, eqb, ltb}
 use Rattle.std.specs.Prelude as prelude
 use Rattle.std.specs.List.{AllByRecursion, count_by, sum_by, filter, range_with_len, list_all}
 use Rattle.std.specs.Option.{option_map_or, option_to_list, option_or}
@@ -15,21 +15,18 @@ use Rattle.rma_layout.specs.Shape.{Shape, default_shape, reserved_blocks}
 use Rattle.rma_layout.specs.Placement.{Place, home_of}
 use Rattle.graph_model.specs.Maps.{keys}
 use Rattle.graph_model.specs.Graph.{Graph, Vertex, new_vertex, vertex_at}
-use Rattle.graph_model.specs.Sizes.{words_of_vertex, words_of_bucket, words_of_slot, words_of_names, blocks_of}
+use Rattle.graph_model.specs.Sizes.{words_of_vertex, words_of_bucket, words_of_slot, words_of_names, blocks_of_words}
 use Rattle.graph_model.specs.Calls.{graph_after_call}
-use Rattle.graph_model.specs.Transactions.{is_writing}
-use Rattle.graph_model.specs.Capacity.{Object, is_object, words_of_reserved, blocks_of_object, objects_on, used_blocks, growth_of, graphs_along, make_of, makes, needed_blocks, short_at_make, short_at_commit, full_rank}
+use Rattle.gdi_kinds.specs.Calls.{is_writing}
+use Rattle.graph_model.specs.Capacity.{Object, is_object, words_of_reserved, blocks_of_object, objects_on, blocks_used_on, growth_of, graphs_along, make_of, makes, blocks_needed_on, short_at_make, short_at_commit, full_rank}
 use Rattle.graph_model.specs.Capacity.Object.{Reserved, OfVertex}
 use Rattle.graph_model.specs.Bare.{bare_graph, IsBareCall, is_vertex_call}
+use Rattle.graph_model.proofs.Sums.{sum_by-map}
 use Rattle.graph_model.proofs.Sets.{length-filter-le}
 use Rattle.graph_model.proofs.Bare.{ids_after_call, ids_after_calls, graph_after_call-bare, graph_after_calls-bare, length-after_calls, words_of_bucket-bare, is_in_bucket}
 
 sum_by-bounded : {X : Type 0} (f : X → ℕ) (m : ℕ) (xs : List X) → ((x : X) → f x ≤ m) → sum_by f xs ≤ length xs * m
 sum_by-bounded f m xs each = sum_by-le f m xs (λ k d within. each (get_or xs k d))
-
-sum_by-map : {X Y : Type 0} (f : Y → ℕ) (g : X → Y) (xs : List X) → sum_by f (map g xs) ≡ sum_by (λ x. f (g x)) xs
-sum_by-map f g [] = refl
-sum_by-map f g (x ∷ xs) = sum_by-cons f (g x) (map g xs) ∙ ap (λ n. f (g x) + n) (sum_by-map f g xs) ∙ sym (sum_by-cons (λ z. f (g z)) x xs)
 
 find-none : {X : Type 0} (p : X → Bool) (xs : List X) → ((x : X) → p x ≡ false) → prelude.find p xs ≡ None
 find-none p [] none = refl
@@ -111,10 +108,10 @@ length-makes shape ids (c ∷ cs) bare =
     omega (arith, later, length-make_of shape (bare_graph ids) c bare.0, sum_by-cons (λ z. cond (is_vertex_call z) 1 0) c cs, length-append (option_to_list (make_of shape (bare_graph ids) c)) (makes shape (graph_after_call shape (bare_graph ids) c) cs))
 
 -- no make is short where the blocks are enough for all of them on any rank
-short_at_make-none : (shape : Shape) (g : Graph) (used : ℕ) → ((rank : ℕ) → used_blocks shape g rank ≤ used) → (earlier ranks : List ℕ) → used + length earlier + length ranks ≤ shape.blocks → short_at_make shape g earlier ranks ≡ None
+short_at_make-none : (shape : Shape) (g : Graph) (used : ℕ) → ((rank : ℕ) → blocks_used_on shape g rank ≤ used) → (earlier ranks : List ℕ) → used + length earlier + length ranks ≤ shape.blocks → short_at_make shape g earlier ranks ≡ None
 short_at_make-none shape g used each earlier [] room = refl
 short_at_make-none shape g used each earlier (rank ∷ ranks) room =
-    let now = used_blocks shape g rank + count_by (λ r. eqb r rank) earlier + 1 in
+    let now = blocks_used_on shape g rank + count_by (λ r. eqb r rank) earlier + 1 in
     let fits : now ≤ shape.blocks = omega (arith, each rank, count_by-le-length (λ r. eqb r rank) earlier) in
     ap (λ full. if full then Some rank else short_at_make shape g (rank ∷ earlier) ranks) (le-ltb shape.blocks now fits)
     ∙ short_at_make-none shape g used each (rank ∷ earlier) ranks (omega arith)
@@ -122,8 +119,8 @@ short_at_make-none shape g used each earlier (rank ∷ ranks) room =
 -- On the shape, a bare graph of at most `many` vertices takes at most `most` blocks for a reserved object and 1 for a
 -- vertex, and there are blocks for all of them twice.
 pub record HasRoomFor (shape : Shape) (many most : ℕ) : Type 0 where
-  reserved : (words : ℕ) → words ≤ 2 * many → blocks_of shape words ≤ most
-  light : (words : ℕ) → words ≤ 5 → blocks_of shape words ≤ 1
+  reserved : (words : ℕ) → words ≤ 2 * many → blocks_of_words shape words ≤ most
+  light : (words : ℕ) → words ≤ 5 → blocks_of_words shape words ≤ 1
   enough : 2 * (reserved_blocks shape * most) + 3 * many ≤ shape.blocks
 
 module _ (shape : Shape) (many most : ℕ) (room : HasRoomFor shape many most) where
@@ -133,8 +130,8 @@ module _ (shape : Shape) (many most : ℕ) (room : HasRoomFor shape many most) w
   blocks_of_vertex-bare : (ids : List ℕ) (rank id : ℕ) → blocks_of_object shape (bare_graph ids) rank (OfVertex id) ≤ 1
   blocks_of_vertex-bare ids rank id = room.light _ (words_of_vertex-bare ids id)
 
-  used_blocks-bare : (ids : List ℕ) (rank : ℕ) → length ids ≤ many → used_blocks shape (bare_graph ids) rank ≤ reserved_blocks shape * most + length ids
-  used_blocks-bare ids rank few =
+  blocks_used_on-bare : (ids : List ℕ) (rank : ℕ) → length ids ≤ many → blocks_used_on shape (bare_graph ids) rank ≤ reserved_blocks shape * most + length ids
+  blocks_used_on-bare ids rank few =
       sum_by-objects shape ids rank most (blocks_of_object shape (bare_graph ids) rank) (λ block. blocks_of_reserved-bare ids rank block few) (blocks_of_vertex-bare ids rank)
 
   growth-bare : (before : Graph) (along : List Graph) (ids : List ℕ) (rank : ℕ) → length ids ≤ many
@@ -146,9 +143,9 @@ module _ (shape : Shape) (many most : ℕ) (room : HasRoomFor shape many most) w
       (λ block. omega (arith, least (Reserved block), blocks_of_reserved-bare ids rank block few))
       (λ id. omega (arith, least (OfVertex id), blocks_of_vertex-bare ids rank id))
 
-  needed_blocks-bare : (ids : List ℕ) (cs : List Call) (rank : ℕ) → AllByRecursion IsBareCall cs → length ids + count_by is_vertex_call cs ≤ many
-      → needed_blocks shape (bare_graph ids) cs rank ≤ count_by is_vertex_call cs + (reserved_blocks shape * most + many)
-  needed_blocks-bare ids cs rank bare few =
+  blocks_needed_on-bare : (ids : List ℕ) (cs : List Call) (rank : ℕ) → AllByRecursion IsBareCall cs → length ids + count_by is_vertex_call cs ≤ many
+      → blocks_needed_on shape (bare_graph ids) cs rank ≤ count_by is_vertex_call cs + (reserved_blocks shape * most + many)
+  blocks_needed_on-bare ids cs rank bare few =
       let g = bare_graph ids in
       let after = ids_after_calls shape ids cs in
       let along = graphs_along shape g cs in
@@ -161,13 +158,13 @@ module _ (shape : Shape) (many most : ℕ) (room : HasRoomFor shape many most) w
   short_at_commit-bare : (ids : List ℕ) (cs : List Call) → AllByRecursion IsBareCall cs → length ids + count_by is_vertex_call cs ≤ many → short_at_commit shape (bare_graph ids) cs ≡ None
   short_at_commit-bare ids cs bare few =
       let g = bare_graph ids in
-      let fits : (rank : ℕ) → used_blocks shape g rank + needed_blocks shape g cs rank ≤ shape.blocks =
-      λ rank. omega (arith, used_blocks-bare ids rank (omega arith), needed_blocks-bare ids cs rank bare few, room.enough) in
-      find-none (λ rank. ltb shape.blocks (used_blocks shape g rank + needed_blocks shape g cs rank)) (range_with_len 0 shape.ranks) (λ rank. le-ltb _ _ (fits rank))
+      let fits : (rank : ℕ) → blocks_used_on shape g rank + blocks_needed_on shape g cs rank ≤ shape.blocks =
+      λ rank. omega (arith, blocks_used_on-bare ids rank (omega arith), blocks_needed_on-bare ids cs rank bare few, room.enough) in
+      find-none (λ rank. ltb shape.blocks (blocks_used_on shape g rank + blocks_needed_on shape g cs rank)) (range_with_len 0 shape.ranks) (λ rank. le-ltb _ _ (fits rank))
 
   short_at_make-bare : (ids : List ℕ) (cs : List Call) → AllByRecursion IsBareCall cs → length ids + count_by is_vertex_call cs ≤ many → short_at_make shape (bare_graph ids) [] (makes shape (bare_graph ids) cs) ≡ None
   short_at_make-bare ids cs bare few =
-      let used : (rank : ℕ) → used_blocks shape (bare_graph ids) rank ≤ reserved_blocks shape * most + length ids = λ rank. used_blocks-bare ids rank (omega arith) in
+      let used : (rank : ℕ) → blocks_used_on shape (bare_graph ids) rank ≤ reserved_blocks shape * most + length ids = λ rank. blocks_used_on-bare ids rank (omega arith) in
       short_at_make-none shape (bare_graph ids) (reserved_blocks shape * most + length ids) used [] (makes shape (bare_graph ids) cs) (omega (arith, length-makes shape ids cs bare, room.enough))
 
   pub full_rank-bare : (ids : List ℕ) (txn : Txn) → AllByRecursion IsBareCall txn.calls → length ids + count_by is_vertex_call txn.calls ≤ many → full_rank shape (bare_graph ids) txn ≡ None

@@ -9,8 +9,8 @@ use Rattle.std.proofs.lemmas.List.Sums.{sum_by-cons}
 use Rattle.gdi_kinds.specs.declared.call.Call.{Call}
 use Rattle.rma_layout.specs.Shape.{Shape}
 use Rattle.graph_model.specs.Graph.{Graph}
-use Rattle.graph_model.specs.Transactions.{is_writing}
-use Rattle.graph_model.specs.Capacity.{used_blocks, needed_blocks, makes, short_at_make, short_at_commit, full_rank}
+use Rattle.gdi_kinds.specs.Calls.{is_writing}
+use Rattle.graph_model.specs.Capacity.{blocks_used_on, blocks_needed_on, makes, short_at_make, short_at_commit, full_rank}
 use Rattle.graph_model.proofs.Entries.{same_value, nothing}
 use Rattle.graph_model.specs.Laws.{IsShortOn, AbortIsNeverFull, LookingTransactionIsNeverFull, NamedRankIsShort, ShortTransactionIsFull}
 
@@ -33,16 +33,16 @@ times-itself : (r : ℕ) (rs : List ℕ) → times r (r ∷ rs) ≡ 1 + times r 
 times-itself r rs = times-cons r r rs ∙ ap (λ same. cond same 1 0 + times r rs) (eq-eqb r r refl)
 
 module _ (shape : Shape) (g : Graph) where
-  short_at_make-short : (earlier ranks : List ℕ) (r : ℕ) → short_at_make shape g earlier ranks ≡ Some r → shape.blocks < used_blocks shape g r + (times r earlier + times r ranks)
+  short_at_make-short : (earlier ranks : List ℕ) (r : ℕ) → short_at_make shape g earlier ranks ≡ Some r → shape.blocks < blocks_used_on shape g r + (times r earlier + times r ranks)
   short_at_make-short earlier [] r is = nothing r is
   short_at_make-short earlier (rank ∷ ranks) r is =
-      let now = used_blocks shape g rank + times rank earlier + 1 in
-      elim (nat_lt shape.blocks now) as (λ b. nat_lt shape.blocks now ≡ b → (if b then Some rank else short_at_make shape g (rank ∷ earlier) ranks) ≡ Some r → shape.blocks < used_blocks shape g r + (times r earlier + times r (rank ∷ ranks))) [
-        | true ↦ λ short found. subst (λ x. shape.blocks < used_blocks shape g x + (times x earlier + times x (rank ∷ ranks))) (same_value rank r found) (omega (arith, ltb-true _ _ short, times-itself rank ranks))
+      let now = blocks_used_on shape g rank + times rank earlier + 1 in
+      elim (nat_lt shape.blocks now) as (λ b. nat_lt shape.blocks now ≡ b → (if b then Some rank else short_at_make shape g (rank ∷ earlier) ranks) ≡ Some r → shape.blocks < blocks_used_on shape g r + (times r earlier + times r (rank ∷ ranks))) [
+        | true ↦ λ short found. subst (λ x. shape.blocks < blocks_used_on shape g x + (times x earlier + times x (rank ∷ ranks))) (same_value rank r found) (omega (arith, ltb-true _ _ short, times-itself rank ranks))
         | false ↦ λ _ later. omega (arith, short_at_make-short (rank ∷ earlier) ranks r later, times-cons r rank earlier, times-cons r rank ranks)
       ] refl is
 
-  short_at_make-named : (cs : List Call) (r : ℕ) → short_at_make shape g [] (makes shape g cs) ≡ Some r → shape.blocks < used_blocks shape g r + needed_blocks shape g cs r
+  short_at_make-named : (cs : List Call) (r : ℕ) → short_at_make shape g [] (makes shape g cs) ≡ Some r → shape.blocks < blocks_used_on shape g r + blocks_needed_on shape g cs r
   short_at_make-named cs r is = omega (arith, short_at_make-short [] (makes shape g cs) r is)
 
 find-passes : (p : ℕ → Bool) (xs : List ℕ) (x : ℕ) → prelude.find p xs ≡ Some x → p x ≡ true
@@ -76,7 +76,7 @@ named_rank_short shape g txn r is =
       | true ↦ λ never. nothing r never
       | false ↦ elim at_make as (λ made. at_make ≡ made → option_or made at_commit ≡ Some r → IsShortOn shape g txn r) [
         | Some x ↦ λ made found. short_at_make-named shape g txn.calls r (made ∙ found)
-        | None ↦ λ _ found. ltb-true _ _ (find-passes (λ rank. nat_lt shape.blocks (used_blocks shape g rank + needed_blocks shape g txn.calls rank)) _ r found)
+        | None ↦ λ _ found. ltb-true _ _ (find-passes (λ rank. nat_lt shape.blocks (blocks_used_on shape g rank + blocks_needed_on shape g txn.calls rank)) _ r found)
       ] refl
     ] is
 
@@ -87,7 +87,7 @@ some_of (Some x) q there = refl
 pub short_full : ShortTransactionIsFull
 unfolding full_rank
 short_full shape g txn rank commits writes in_range short =
-    let test = λ (r : ℕ). nat_lt shape.blocks (used_blocks shape g r + needed_blocks shape g txn.calls r) in
+    let test = λ (r : ℕ). nat_lt shape.blocks (blocks_used_on shape g r + blocks_needed_on shape g txn.calls r) in
     let at_commit : IsSome (short_at_commit shape g txn.calls) = find-in_range test 0 shape.ranks rank (omega arith) (omega arith) (lt-ltb _ _ short) in
     let goes_on = or_from txn.aborts (not (is_writing txn)) (not-true _ commits) (not_from_true _ writes) in
     subst IsSome (sym (cond-false (txn.aborts || not (is_writing txn)) None _ goes_on)) (some_of (short_at_make shape g [] (makes shape g txn.calls)) (short_at_commit shape g txn.calls) at_commit)

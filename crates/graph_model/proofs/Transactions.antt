@@ -4,9 +4,10 @@ use Rattle.std.specs.List.{list_any, AllByRecursion}
 use Rattle.std.specs.Option.{option_map_or}
 use Rattle.std.proofs.lemmas.Bool.{not-true, or_parts, not_from_false}
 use Rattle.gdi_kinds.specs.declared.call.Call.{Call}
+use Rattle.gdi_kinds.specs.Calls.{is_writing_call}
 use Rattle.rma_layout.specs.Shape.{Shape}
 use Rattle.graph_model.specs.Graph.{Graph}
-use Rattle.graph_model.specs.Calls.{is_writing_call, graph_after_call}
+use Rattle.graph_model.specs.Calls.{graph_after_call}
 use Rattle.graph_model.specs.WellFormed.{IsWellFormed}
 use Rattle.graph_model.specs.History.{graph_after}
 use Rattle.std.specs.Prelude.{IfSome}

@@ -1,7 +1,7 @@
 -- What each call does to a graph, and its reply.
-use Rattle.std.specs.Prelude.{Bool, true, false}
+use Rattle.std.specs.Prelude.{true, false}
 use Rattle.gdi_kinds.specs.declared.call.Call.{Call}
-use Rattle.gdi_kinds.specs.declared.call.Call.TheVariants.{NewLabel, NewType, Vertex, Has, DropVertex, Tag, Untag, Tags, Set, Get, Unset, Props, Edge, Cut, Target, ETag, EUntag, ETags, ESet, EGet, EUnset, EProps, Edges, Near, Degree, Find, Hood, Levels, Parts, Scan, Vertices, Arcs}
+use Rattle.gdi_kinds.specs.declared.call.Call.TheVariants.{NewLabel, NewType, Vertex, Has, DropVertex, Tag, Untag, Tags, Set, Add, Get, Unset, Props, Edge, UEdge, Cut, Target, ETag, EUntag, ETags, ESet, EAdd, EGet, EUnset, EProps, Edges, Near, Degree, Find, Hood, Levels, Parts, Scan, Vertices, Arcs}
 use Rattle.gdi_kinds.specs.declared.reply.Reply.{Reply}
 use Rattle.rma_layout.specs.Shape.{Shape}
 use Rattle.graph_model.specs.Graph.{Graph}
@@ -14,7 +14,7 @@ use Rattle.graph_model.specs.WholeCalls as whole
 
 abbrev pub steps_of : Shape → Graph → Call → Step Answer
 steps_of shape g (NewLabel name) = names.new_label g name
-steps_of shape g (NewType name kind) = names.new_type g name kind
+steps_of shape g (NewType name kind many) = names.new_type g name kind many
 steps_of shape g (Vertex id) = vertex.make_vertex shape g id
 steps_of shape g (Has id) = vertex.has_vertex g id
 steps_of shape g (DropVertex id) = vertex.drop_vertex g id
@@ -22,16 +22,19 @@ steps_of shape g (Tag id label) = vertex.tag shape g id label
 steps_of shape g (Untag id label) = vertex.untag g id label
 steps_of shape g (Tags id) = vertex.tags g id
 steps_of shape g (Set id prop value) = vertex.set_prop g id prop value
+steps_of shape g (Add id prop value) = vertex.add_prop g id prop value
 steps_of shape g (Get id prop) = vertex.get_prop g id prop
 steps_of shape g (Unset id prop) = vertex.unset_prop g id prop
 steps_of shape g (Props id) = vertex.props g id
-steps_of shape g (Edge source target label) = edge.make_edge g source target label
+steps_of shape g (Edge source target label) = edge.make_edge false g source target label
+steps_of shape g (UEdge source target label) = edge.make_edge true g source target label
 steps_of shape g (Cut source ordinal) = edge.cut g source ordinal
 steps_of shape g (Target source ordinal) = edge.target g source ordinal
 steps_of shape g (ETag source ordinal label) = edge.tag_edge g source ordinal label
 steps_of shape g (EUntag source ordinal label) = edge.untag_edge g source ordinal label
 steps_of shape g (ETags source ordinal) = edge.edge_tags g source ordinal
 steps_of shape g (ESet source ordinal prop value) = edge.set_edge_prop g source ordinal prop value
+steps_of shape g (EAdd source ordinal prop value) = edge.add_edge_prop g source ordinal prop value
 steps_of shape g (EGet source ordinal prop) = edge.get_edge_prop g source ordinal prop
 steps_of shape g (EUnset source ordinal prop) = edge.unset_edge_prop g source ordinal prop
 steps_of shape g (EProps source ordinal) = edge.edge_props g source ordinal
@@ -55,30 +58,3 @@ graph_after_call shape g call = (answer_to shape g call).graph
 
 abbrev pub reply_to : Shape → Graph → Call → Reply
 reply_to shape g call = (answer_to shape g call).reply
-
--- the calls that may change the graph
-abbrev pub is_writing_call : Call → Bool
-is_writing_call (NewLabel name) = true
-is_writing_call (NewType name kind) = true
-is_writing_call (Vertex id) = true
-is_writing_call (DropVertex id) = true
-is_writing_call (Tag id label) = true
-is_writing_call (Untag id label) = true
-is_writing_call (Set id prop value) = true
-is_writing_call (Unset id prop) = true
-is_writing_call (Edge source target label) = true
-is_writing_call (Cut source ordinal) = true
-is_writing_call (ETag source ordinal label) = true
-is_writing_call (EUntag source ordinal label) = true
-is_writing_call (ESet source ordinal prop value) = true
-is_writing_call (EUnset source ordinal prop) = true
-is_writing_call call = false
-
-abbrev pub is_whole_call : Call → Bool
-is_whole_call (Hood id depth) = true
-is_whole_call (Levels id) = true
-is_whole_call Parts = true
-is_whole_call (Scan label test) = true
-is_whole_call Vertices = true
-is_whole_call Arcs = true
-is_whole_call call = false

@@ -1,13 +1,15 @@
 -- Scripts with the replies that the definitions give them, and the sizes of small objects.
-use Rattle.std.specs.Prelude.{◌≡◌, ◌+◌, ◌*◌, ◌-◌, ◌^◌, List, [], ◌∷◌, Some, None, true, false, pos, codes, replicate}
+use Rattle.std.specs.Prelude.{◌≡◌, ◌+◌, ◌*◌, ◌-◌, ◌^◌, ℕ, List, [], ◌∷◌, ◌++◌, Some, None, true, false, pos, codes, replicate}
 use Rattle.gdi_kinds.specs.declared.call.Call.{Call}
-use Rattle.gdi_kinds.specs.declared.call.Call.TheVariants.{Arcs, Cut, Degree, DropVertex, EGet, ESet, ETags, EUnset, Edge, Edges, Find, Get, Has, Hood, Levels, Near, NewLabel, NewType, Parts, Props, Scan, Set, Tag, Tags, Unset, Untag, Vertex, Vertices}
-use Rattle.gdi_kinds.specs.declared.call.Dir.TheVariants.{Inward, Either}
+use Rattle.gdi_kinds.specs.declared.call.Call.TheVariants.{Add, Arcs, Cut, Degree, DropVertex, EAdd, EGet, ESet, ETags, EUnset, Edge, Edges, Find, Get, Has, Hood, Levels, Near, NewLabel, NewType, Parts, Props, Scan, Set, Tag, Tags, UEdge, Unset, Untag, Vertex, Vertices}
+use Rattle.gdi_kinds.specs.declared.call.Dir.TheVariants.{Outward, Inward, Undirected, Either}
 use Rattle.gdi_kinds.specs.declared.constraint.Atom.TheVariants as atom
-use Rattle.gdi_kinds.specs.declared.constraint.Op.TheVariants.{Ge}
+use Rattle.gdi_kinds.specs.declared.constraint.Op.TheVariants.{Lt, Gt, Ge}
+use Rattle.gdi_kinds.specs.declared.edge_line.EdgeLine.{EdgeLine}
 use Rattle.gdi_kinds.specs.declared.reply.Reply.{Reply}
 use Rattle.gdi_kinds.specs.declared.reply.Reply.TheVariants as reply
 use Rattle.gdi_kinds.specs.declared.value.Kind.TheVariants as kind
+use Rattle.gdi_kinds.specs.declared.value.Value.{Value}
 use Rattle.gdi_kinds.specs.declared.value.Value.TheVariants as value
 use Rattle.gdi_kinds.specs.declared.txn.Txn.{Txn}
 use Rattle.rma_layout.specs.Shape.{Shape, default_shape}
@@ -33,6 +35,16 @@ committed calls = record { whole = false; calls = calls; aborts = false }
 
 abbrev pub aborted : List Call → Txn
 aborted calls = record { whole = false; calls = calls; aborts = true }
+
+-- lines of edges from a source to a target, with their ordinals
+abbrev pub out_line : ℕ → ℕ → ℕ → EdgeLine
+out_line source ordinal target = record { inward = false; undirected = false; source = source; ordinal = ordinal; target = target }
+
+abbrev pub in_line : ℕ → ℕ → ℕ → EdgeLine
+in_line source ordinal target = record { inward = true; undirected = false; source = source; ordinal = ordinal; target = target }
+
+abbrev pub undirected_line : ℕ → ℕ → ℕ → EdgeLine
+undirected_line source ordinal target = record { inward = false; undirected = true; source = source; ordinal = ordinal; target = target }
 
 -- a rank of eight blocks, of which five are reserved
 abbrev pub small_shape : Shape
@@ -76,7 +88,7 @@ VertexMadeAgainIsFull = full_rank small_shape (small_graph (Vertex 1 ∷ Vertex 
 abbrev pub SelfLoopIsListedTwice : Type 0
 SelfLoopIsListedTwice = GivesReplies (Vertex 5 ∷ Edge 5 5 None ∷ Edges 5 Either None ∷ DropVertex 5 ∷ Vertex 5 ∷ Edges 5 Either None ∷ [])
     (reply.Done ∷ reply.EdgeIs 5 0
-    ∷ reply.Edges ((record { inward = false; source = 5; ordinal = 0; target = 5 }) ∷ (record { inward = true; source = 5; ordinal = 0; target = 5 }) ∷ [])
+    ∷ reply.Edges (out_line 5 0 5 ∷ in_line 5 0 5 ∷ [])
     ∷ reply.Done ∷ reply.Done ∷ reply.Edges [] ∷ [])
 
 -- an ordinal isn't given out again after a cut, nor do edges to a vertex outlive it
@@ -86,10 +98,10 @@ OrdinalsAreNotUsedAgain = GivesReplies (Vertex 1 ∷ Vertex 2 ∷ Edge 1 2 None 
 
 abbrev pub EdgeTurnsHeavy : Type 0
 EdgeTurnsHeavy = GivesReplies
-    (NewLabel (codes "KNOWS") ∷ NewType (codes "since") kind.Int ∷ Vertex 1 ∷ Vertex 2 ∷ Edge 1 2 (Some (codes "KNOWS")) ∷ ETags 1 0
+    (NewLabel (codes "KNOWS") ∷ NewType (codes "since") kind.Int false ∷ Vertex 1 ∷ Vertex 2 ∷ Edge 1 2 (Some (codes "KNOWS")) ∷ ETags 1 0
     ∷ ESet 1 0 (codes "since") (value.Int (pos 2019)) ∷ EGet 1 0 (codes "since") ∷ ETags 1 0 ∷ Edges 2 Inward None ∷ EUnset 1 0 (codes "since") ∷ EGet 1 0 (codes "since") ∷ [])
     (reply.Done ∷ reply.Done ∷ reply.Done ∷ reply.Done ∷ reply.EdgeIs 1 0 ∷ reply.Labels (codes "KNOWS" ∷ []) ∷ reply.Done ∷ reply.Value (value.Int (pos 2019)) ∷ reply.Labels (codes "KNOWS" ∷ [])
-    ∷ reply.Edges ((record { inward = true; source = 1; ordinal = 0; target = 2 }) ∷ []) ∷ reply.Done ∷ reply.NoProp ∷ [])
+    ∷ reply.Edges (in_line 1 0 2 ∷ []) ∷ reply.Done ∷ reply.NoProp ∷ [])
 
 abbrev pub NameIsLookedUpFirst : Type 0
 NameIsLookedUpFirst = GivesReplies (Tag 9 (codes "Absent") ∷ []) (reply.NoLabel ∷ [])
@@ -97,12 +109,12 @@ NameIsLookedUpFirst = GivesReplies (Tag 9 (codes "Absent") ∷ []) (reply.NoLabe
 -- the greatest identifier, and the longest text
 abbrev pub LongestTextIsKept : Type 0
 LongestTextIsKept = GivesReplies
-    (NewType (codes "t") kind.Text ∷ Vertex (2 ^ 64 - 1) ∷ Set (2 ^ 64 - 1) (codes "t") (value.Text (replicate 255 97)) ∷ Get (2 ^ 64 - 1) (codes "t") ∷ [])
+    (NewType (codes "t") kind.Text false ∷ Vertex (2 ^ 64 - 1) ∷ Set (2 ^ 64 - 1) (codes "t") (value.Text (replicate 255 97)) ∷ Get (2 ^ 64 - 1) (codes "t") ∷ [])
     (reply.Done ∷ reply.Done ∷ reply.Done ∷ reply.Value (value.Text (replicate 255 97)) ∷ [])
 
 abbrev pub LabelsAndPropertiesComeAndGo : Type 0
 LabelsAndPropertiesComeAndGo = GivesReplies
-    (NewLabel (codes "A") ∷ NewType (codes "n") kind.Int ∷ Vertex 1 ∷ Tag 1 (codes "A") ∷ Set 1 (codes "n") (value.Int (pos 5)) ∷ Props 1 ∷ Untag 1 (codes "A") ∷ Tags 1
+    (NewLabel (codes "A") ∷ NewType (codes "n") kind.Int false ∷ Vertex 1 ∷ Tag 1 (codes "A") ∷ Set 1 (codes "n") (value.Int (pos 5)) ∷ Props 1 ∷ Untag 1 (codes "A") ∷ Tags 1
     ∷ Unset 1 (codes "n") ∷ Get 1 (codes "n") ∷ Edge 1 1 None ∷ Cut 1 0 ∷ Degree 1 Either ∷ Find (codes "A") None ∷ [])
     (reply.Done ∷ reply.Done ∷ reply.Done ∷ reply.Done ∷ reply.Done ∷ reply.Props ((record { name = codes "n"; value = value.Int (pos 5) }) ∷ []) ∷ reply.Done ∷ reply.Labels []
     ∷ reply.Done ∷ reply.NoProp ∷ reply.EdgeIs 1 0 ∷ reply.Done ∷ reply.Count 0 ∷ reply.Ids [] ∷ [])
@@ -134,7 +146,7 @@ LargestVertex = (5 + 5 * 209714 + 1 ≡ most_words) × (is_too_large (5 + 5 * 20
 -- people, where they live and whom they know
 abbrev pub people : Graph
 people = made_by
-    (NewType (codes "name") kind.Text ∷ NewType (codes "age") kind.Int ∷ NewType (codes "since") kind.Int
+    (NewType (codes "name") kind.Text false ∷ NewType (codes "age") kind.Int false ∷ NewType (codes "since") kind.Int false
     ∷ NewLabel (codes "Person") ∷ NewLabel (codes "Author") ∷ NewLabel (codes "Town") ∷ NewLabel (codes "LIVES_IN") ∷ NewLabel (codes "KNOWS")
     ∷ Vertex 1 ∷ Tag 1 (codes "Person") ∷ Set 1 (codes "name") (value.Text (codes "Ada")) ∷ Set 1 (codes "age") (value.Int (pos 36))
     ∷ Vertex 2 ∷ Tag 2 (codes "Person") ∷ Tag 2 (codes "Author") ∷ Set 2 (codes "name") (value.Text (codes "Byron, George"))
@@ -148,7 +160,7 @@ people = made_by
 abbrev pub PeopleAreListed : Type 0
 PeopleAreListed = IsAnswered people (Props 2 ∷ Edges 2 Either None ∷ Find (codes "Town") None ∷ Near 2 Either ∷ [])
     (reply.Props ((record { name = codes "name"; value = value.Text (codes "Byron, George") }) ∷ [])
-    ∷ reply.Edges ((record { inward = false; source = 2; ordinal = 0; target = 11 }) ∷ (record { inward = false; source = 2; ordinal = 1; target = 1 }) ∷ (record { inward = true; source = 3; ordinal = 1; target = 2 }) ∷ [])
+    ∷ reply.Edges (out_line 2 0 11 ∷ out_line 2 1 1 ∷ in_line 3 1 2 ∷ [])
     ∷ reply.Ids (10 ∷ 11 ∷ []) ∷ reply.Ids (1 ∷ 3 ∷ 11 ∷ []) ∷ [])
 
 abbrev pub PeopleAreSearched : Type 0
@@ -163,3 +175,66 @@ abbrev pub ConstraintsAreRefused : Type 0
 ConstraintsAreRefused = IsAnswered people
     (Edges 9 Either (Some ((atom.Has (codes "Absent") ∷ []) ∷ [])) ∷ Edges 9 Either (Some ((atom.Prop (codes "age") Ge (value.Bool true) ∷ []) ∷ [])) ∷ Edges 2 Either (Some ((atom.Prop (codes "age") Ge (value.Bool true) ∷ []) ∷ [])) ∷ [])
     (reply.NoLabel ∷ reply.NoVertex 9 ∷ reply.WrongKind ∷ [])
+
+abbrev pub int : ℕ → Value
+int n = value.Int (pos n)
+
+-- a marked type keeps its values in the order in which they were added, and one may stand there again
+abbrev pub ValuesAreKept : Type 0
+ValuesAreKept = GivesReplies
+    (NewType (codes "n") kind.Int true ∷ Vertex 1 ∷ Add 1 (codes "n") (int 5) ∷ Add 1 (codes "n") (int 3) ∷ Add 1 (codes "n") (int 5)
+    ∷ Get 1 (codes "n") ∷ Props 1 ∷ Set 1 (codes "n") (int 9) ∷ Get 1 (codes "n") ∷ Unset 1 (codes "n") ∷ Get 1 (codes "n") ∷ Props 1 ∷ [])
+    (reply.Done ∷ reply.Done ∷ reply.Done ∷ reply.Done ∷ reply.Done
+    ∷ reply.Values (int 5 ∷ int 3 ∷ int 5 ∷ [])
+    ∷ reply.Props ((record { name = codes "n"; value = int 5 }) ∷ (record { name = codes "n"; value = int 3 }) ∷ (record { name = codes "n"; value = int 5 }) ∷ [])
+    ∷ reply.Done ∷ reply.Values (int 9 ∷ []) ∷ reply.Done ∷ reply.NoProp ∷ reply.Props [] ∷ [])
+
+-- and so on an edge, which has an object of its own while it has a value
+abbrev pub ValuesOfAnEdgeAreKept : Type 0
+ValuesOfAnEdgeAreKept =
+    let calls = NewType (codes "n") kind.Int true ∷ Vertex 1 ∷ UEdge 1 1 None ∷ EAdd 1 0 (codes "n") (int 5) ∷ [] in
+    GivesReplies (calls ++ EAdd 1 0 (codes "n") (int 3) ∷ EGet 1 0 (codes "n") ∷ EAdd 1 1 (codes "n") (int 3) ∷ [])
+    (reply.Done ∷ reply.Done ∷ reply.EdgeIs 1 0 ∷ reply.Done ∷ reply.Done ∷ reply.Values (int 5 ∷ int 3 ∷ []) ∷ reply.NoEdge ∷ [])
+    × (makes default_shape empty_graph (calls ++ EAdd 1 0 (codes "n") (int 3) ∷ []) ≡ 1 ∷ 1 ∷ [])
+
+-- a type without the mark takes no second value; a value of another kind is told first
+abbrev pub SecondValueIsRefused : Type 0
+SecondValueIsRefused = GivesReplies
+    (NewType (codes "m") kind.Int false ∷ Vertex 1 ∷ Add 1 (codes "m") (int 5) ∷ Add 1 (codes "m") (value.Text (codes "b")) ∷ Get 1 (codes "m") ∷ Add 2 (codes "m") (int 5) ∷ Add 2 (codes "k") (int 5) ∷ [])
+    (reply.Done ∷ reply.Done ∷ reply.NotMany ∷ reply.WrongKind ∷ reply.NoProp ∷ reply.NoVertex 2 ∷ reply.NoType ∷ [])
+
+-- a constraint passes where one of the values does
+abbrev pub OneValuePasses : Type 0
+OneValuePasses = IsAnswered (made_by (NewType (codes "n") kind.Int true ∷ Vertex 1 ∷ Add 1 (codes "n") (int 5) ∷ Add 1 (codes "n") (int 3) ∷ []))
+    (Scan None (Some ((atom.Prop (codes "n") Lt (int 4) ∷ []) ∷ [])) ∷ Scan None (Some ((atom.Prop (codes "n") Gt (int 4) ∷ []) ∷ [])) ∷ Scan None (Some ((atom.Prop (codes "n") Gt (int 5) ∷ []) ∷ [])) ∷ [])
+    (reply.Ids (1 ∷ []) ∷ reply.Ids (1 ∷ []) ∷ reply.Ids [] ∷ [])
+
+-- an undirected edge and a directed one, as their target sees them and as their source does
+abbrev pub UndirectedEdgeIsListed : Type 0
+UndirectedEdgeIsListed =
+    GivesReplies (Vertex 1 ∷ Vertex 2 ∷ UEdge 1 2 None ∷ Edge 1 2 None ∷ UEdge 1 3 None ∷ [])
+    (reply.Done ∷ reply.Done ∷ reply.EdgeIs 1 0 ∷ reply.EdgeIs 1 1 ∷ reply.NoVertex 3 ∷ [])
+    × IsAnswered (made_by (Vertex 1 ∷ Vertex 2 ∷ UEdge 1 2 None ∷ Edge 1 2 None ∷ []))
+    (Edges 2 Undirected None ∷ Edges 2 Inward None ∷ Edges 2 Either None ∷ Edges 2 Outward None ∷ Edges 1 Either None ∷ [])
+    (reply.Edges (undirected_line 1 0 2 ∷ []) ∷ reply.Edges (in_line 1 1 2 ∷ []) ∷ reply.Edges (undirected_line 1 0 2 ∷ in_line 1 1 2 ∷ []) ∷ reply.Edges []
+    ∷ reply.Edges (undirected_line 1 0 2 ∷ out_line 1 1 2 ∷ []) ∷ [])
+
+-- what is near over it, at either end and in each direction
+abbrev pub UndirectedEdgeIsNear : Type 0
+UndirectedEdgeIsNear = IsAnswered (made_by (Vertex 1 ∷ Vertex 2 ∷ UEdge 1 2 None ∷ []))
+    (Near 1 Undirected ∷ Near 2 Undirected ∷ Near 2 Either ∷ Near 1 Outward ∷ Near 2 Inward ∷ [])
+    (reply.Ids (2 ∷ []) ∷ reply.Ids (1 ∷ []) ∷ reply.Ids (1 ∷ []) ∷ reply.Ids [] ∷ reply.Ids [] ∷ [])
+
+-- it is walked both ways
+abbrev pub UndirectedEdgeIsWalkedBothWays : Type 0
+UndirectedEdgeIsWalkedBothWays = IsAnswered (made_by (Vertex 1 ∷ Vertex 2 ∷ Vertex 3 ∷ UEdge 1 2 None ∷ Edge 2 3 None ∷ []))
+    (Levels 1 ∷ Levels 2 ∷ Levels 3 ∷ [])
+    (reply.Levels ((record { id = 1; number = 0 }) ∷ (record { id = 2; number = 1 }) ∷ (record { id = 3; number = 2 }) ∷ [])
+    ∷ reply.Levels ((record { id = 1; number = 1 }) ∷ (record { id = 2; number = 0 }) ∷ (record { id = 3; number = 1 }) ∷ [])
+    ∷ reply.Levels ((record { id = 3; number = 0 }) ∷ []) ∷ [])
+
+-- an undirected self loop is two items and one edge
+abbrev pub UndirectedSelfLoop : Type 0
+UndirectedSelfLoop = IsAnswered (made_by (Vertex 5 ∷ UEdge 5 5 None ∷ []))
+    (Edges 5 Undirected None ∷ Degree 5 Either ∷ Degree 5 Outward ∷ Near 5 Either ∷ Arcs ∷ Cut 5 0 ∷ Degree 5 Either ∷ [])
+    (reply.Edges (undirected_line 5 0 5 ∷ undirected_line 5 0 5 ∷ []) ∷ reply.Count 2 ∷ reply.Count 0 ∷ reply.Ids (5 ∷ []) ∷ reply.Count 1 ∷ reply.Done ∷ reply.Count 0 ∷ [])

@@ -1,6 +1,6 @@
 -- A labelled property graph. Labels and property types have numbers, their places in their lists from 0; sets of
--- labels and maps of properties go by these numbers.
-use Rattle.std.specs.Prelude.{ℕ, Bool, false, ◌||◌, List, [], length, Option, is_some, nat_lt, ◌==◌}
+-- labels and maps of properties go by these numbers. Edges are directed or undirected.
+use Rattle.std.specs.Prelude.{ℕ, Bool, false, not, ◌||◌, List, [], length, Option, is_some, nat_lt, ◌==◌}
 use Rattle.std.specs.Option.{option_map_or}
 use Rattle.std.specs.List.{filter}
 use Rattle.std.specs.Ordering.{nat_cmp, ordering_then}
@@ -18,21 +18,27 @@ Name = List ℕ
 pub record PropType : Type 0 where
   pub name : Name
   pub kind : Kind
+  -- whether it is marked: only then may a property of this type have more than one value
+  pub many : Bool
+
+-- properties: the values of each, in order, by the numbers of their types. A value may stand there again
+abbrev pub Props : Type 0
+Props = Map ℕ (List Value)
 
 pub record Vertex : Type 0 where
   -- the ordinal of the next edge from it
   pub next : ℕ
   -- the numbers of its labels
   pub labels : List ℕ
-  -- its values by the numbers of their types
-  pub props : Map ℕ Value
+  pub props : Props
 
 pub record Edge : Type 0 where
   pub target : ℕ
+  pub undirected : Bool
   pub labels : List ℕ
-  pub props : Map ℕ Value
+  pub props : Props
 
--- an edge is named by its source and its ordinal there
+-- an edge is named by its source and its ordinal there, also one that is undirected
 pub record EdgeKey : Type 0 where
   pub source : ℕ
   pub ordinal : ℕ
@@ -63,13 +69,19 @@ is_vertex g id = is_some (vertex_at g id)
 abbrev pub edge_at : Graph → ℕ → ℕ → Option Edge
 edge_at g source ordinal = find edge_cmp (record { source = source; ordinal = ordinal }) g.edges
 
--- the edges from a vertex, by rising ordinal
+-- the edges whose source is this vertex, by rising ordinal
 abbrev pub edges_from : Graph → ℕ → Map EdgeKey Edge
 edges_from g id = filter (λ entry. entry.0.source == id) g.edges
 
--- the edges to a vertex, by rising source and ordinal
+-- the edges whose target is this vertex, by rising source and ordinal
 abbrev pub edges_to : Graph → ℕ → Map EdgeKey Edge
 edges_to g id = filter (λ entry. entry.1.target == id) g.edges
+
+abbrev pub directed : Map EdgeKey Edge → Map EdgeKey Edge
+directed edges = filter (λ entry. not entry.1.undirected) edges
+
+abbrev pub undirected : Map EdgeKey Edge → Map EdgeKey Edge
+undirected edges = filter (λ entry. entry.1.undirected) edges
 
 -- an edge with two labels or more, or with a property, is heavy: it has an object of its own
 abbrev pub is_heavy : Edge → Bool

@@ -4,10 +4,11 @@ use Rattle.std.specs.Option.{option_map, option_map_or, option_or}
 use Rattle.std.specs.List.{filter}
 use Rattle.gdi_kinds.specs.declared.txn.Txn.{Txn}
 use Rattle.gdi_kinds.specs.declared.outcome.Line.{Line}
+use Rattle.gdi_kinds.specs.Calls.{is_writing}
 use Rattle.rma_layout.specs.Shape.{Shape}
 use Rattle.graph_model.specs.Maps.{item_at}
 use Rattle.graph_model.specs.Graph.{Graph, empty_graph}
-use Rattle.graph_model.specs.Transactions.{is_writing, graph_after_txn}
+use Rattle.graph_model.specs.Transactions.{graph_after_txn}
 use Rattle.graph_model.specs.Placed.{Placed, entry_number}
 
 -- the load's transactions that write

@@ -4,17 +4,18 @@ use Rattle.std.specs.List.{AllByRecursion}
 use Rattle.gdi_kinds.specs.declared.call.Call.{Call}
 use Rattle.gdi_kinds.specs.declared.call.Call.TheVariants as call
 use Rattle.gdi_kinds.specs.declared.reply.Reply.{Reply}
-use Rattle.gdi_kinds.specs.declared.reply.Reply.TheVariants.{Exists, NoVertex, NoEdge, NoLabel, NoType, NoProp, WrongKind, HasLabel, LacksLabel, TooLarge}
+use Rattle.gdi_kinds.specs.declared.reply.Reply.TheVariants.{Exists, NoVertex, NoEdge, NoLabel, NoType, NoProp, WrongKind, NotMany, HasLabel, LacksLabel, TooLarge}
 use Rattle.gdi_kinds.specs.declared.txn.Txn.{Txn}
 use Rattle.gdi_kinds.specs.Names.{IsName}
+use Rattle.gdi_kinds.specs.Calls.{is_writing_call, is_writing}
 use Rattle.rma_layout.specs.Shape.{Shape}
 use Rattle.graph_model.specs.Graph.{Graph, Vertex, Edge, empty_graph, is_vertex}
 use Rattle.graph_model.specs.Walks.{is_walk, is_joined, level_of, component_of}
 use Rattle.graph_model.specs.WellFormed.{IsValue, IsWellFormed}
-use Rattle.graph_model.specs.Sizes.{words_of_vertex, words_of_edge, blocks_of}
-use Rattle.graph_model.specs.Calls.{graph_after_call, reply_to, is_writing_call}
-use Rattle.graph_model.specs.Transactions.{is_writing, graph_after_txn}
-use Rattle.graph_model.specs.Capacity.{used_blocks, needed_blocks, full_rank}
+use Rattle.graph_model.specs.Sizes.{words_of_vertex, words_of_edge, blocks_of_words}
+use Rattle.graph_model.specs.Calls.{graph_after_call, reply_to}
+use Rattle.graph_model.specs.Transactions.{graph_after_txn}
+use Rattle.graph_model.specs.Capacity.{blocks_used_on, blocks_needed_on, full_rank}
 use Rattle.graph_model.specs.History.{graph_after}
 
 -- the replies that refuse a call
@@ -26,6 +27,7 @@ is_refusal NoLabel = true
 is_refusal NoType = true
 is_refusal NoProp = true
 is_refusal WrongKind = true
+is_refusal NotMany = true
 is_refusal HasLabel = true
 is_refusal LacksLabel = true
 is_refusal TooLarge = true
@@ -51,7 +53,7 @@ LookingTransactionIsNeverFull = (shape : Shape) (g : Graph) (txn : Txn) → IsTr
 
 -- the blocks used and those needed are more than the rank has
 abbrev pub IsShortOn : Shape → Graph → Txn → ℕ → Type 0
-IsShortOn shape g txn rank = shape.blocks < used_blocks shape g rank + needed_blocks shape g txn.calls rank
+IsShortOn shape g txn rank = shape.blocks < blocks_used_on shape g rank + blocks_needed_on shape g txn.calls rank
 
 abbrev pub NamedRankIsShort : Type 0
 NamedRankIsShort = (shape : Shape) (g : Graph) (txn : Txn) (rank : ℕ) → full_rank shape g txn ≡ Some rank → IsShortOn shape g txn rank
@@ -69,15 +71,17 @@ abbrev pub ObjectsHaveWords : Type 0
 ObjectsHaveWords = ((g : Graph) (id : ℕ) (vertex : Vertex) → 5 ≤ words_of_vertex g id vertex) × ((edge : Edge) → 5 ≤ words_of_edge edge)
 
 abbrev pub ObjectsHaveABlock : Type 0
-ObjectsHaveABlock = (shape : Shape) (words : ℕ) → 1 ≤ blocks_of shape words
+ObjectsHaveABlock = (shape : Shape) (words : ℕ) → 1 ≤ blocks_of_words shape words
 
 -- what a call would put into the graph is a name, a value or an identifier
 abbrev pub FitsCall : Call → Type 0
 FitsCall (call.NewLabel name) = IsName name
-FitsCall (call.NewType name kind) = IsName name
+FitsCall (call.NewType name kind many) = IsName name
 FitsCall (call.Vertex id) = id < 2 ^ 64
 FitsCall (call.Set id prop value) = IsValue value
+FitsCall (call.Add id prop value) = IsValue value
 FitsCall (call.ESet source ordinal prop value) = IsValue value
+FitsCall (call.EAdd source ordinal prop value) = IsValue value
 FitsCall other = Unit {0}
 
 abbrev pub CallKeepsWellFormed : Type 0
@@ -93,11 +97,11 @@ TransactionKeepsWellFormed = (shape : Shape) (g : Graph) (txn : Txn) → IsWellF
 abbrev pub HistoryIsWellFormed : Type 0
 HistoryIsWellFormed = (shape : Shape) (entry : ℕ → Option Txn) (n : ℕ) → ((k : ℕ) → IfSome (entry k) (λ txn. AllByRecursion FitsCall txn.calls)) → IsWellFormed (graph_after shape entry n)
 
--- the level of j from i is the number of edges of a walk, and no walk has fewer
+-- the level of j from i is the number of steps of a walk, and no walk has fewer
 abbrev pub LevelIsLeast : Type 0
 LevelIsLeast = (g : Graph) (i j n : ℕ) → level_of g i j ≡ Some n → IsTrue (is_walk g n i j) × ((m : ℕ) → m < n → is_walk g m i j ≡ false)
 
--- though `level_of` looks at walks of fewer edges than there are vertices alone
+-- though `level_of` looks at walks of fewer steps than there are vertices alone
 abbrev pub EachWalkHasALevel : Type 0
 EachWalkHasALevel = (g : Graph) (i j m : ℕ) → IsWellFormed g → IsTrue (is_vertex g i) → IsTrue (is_walk g m i j) → IsSome (level_of g i j)
 

@@ -1,5 +1,5 @@
 -- Printed runs that are legal, and two that aren't, each by the part that fails.
-use Rattle.std.specs.Prelude.{ℕ, List, [], ◌∷◌, length, pos, codes}
+use Rattle.std.specs.Prelude.{ℕ, false, List, [], ◌∷◌, length, pos, codes}
 use Rattle.gdi_kinds.specs.declared.call.Call.TheVariants.{NewType, Vertex, Has, DropVertex, Set, Get}
 use Rattle.gdi_kinds.specs.declared.outcome.Line.{Line}
 use Rattle.gdi_kinds.specs.declared.outcome.Printed.{Printed}
@@ -12,7 +12,7 @@ use Rattle.gdi_kinds.specs.declared.value.Value.TheVariants as value
 use Rattle.rma_layout.specs.Shape.{default_shape}
 use Rattle.graph_model.specs.Placed.{transactions_of}
 use Rattle.graph_model.specs.History.{load_entries}
-use Rattle.graph_model.specs.LegalRun.{FitsScript, IsNumbered, IsInOrder, HasReplies, graph_of_run, IsLegalRun}
+use Rattle.graph_model.specs.LegalRun.{FitsScript, IsNumbered, KeepsSessionOrder, HasReplies, graph_of_run, IsLegalRun}
 use Rattle.graph_model.specs.MovedPlaces.{MovesReadingPlaces}
 use Rattle.graph_model.specs.Examples.{committed, aborted, small_shape}
 
@@ -52,7 +52,7 @@ FullIsLegal = IsLegalRun small_shape []
 
 -- a load that sets a property to 0, and two sections that each read it and set it
 abbrev pub counter_load : List Txn
-counter_load = committed (NewType (codes "n") kind.Int ∷ Vertex 1 ∷ Set 1 (codes "n") (value.Int (pos 0)) ∷ []) ∷ []
+counter_load = committed (NewType (codes "n") kind.Int false ∷ Vertex 1 ∷ Set 1 (codes "n") (value.Int (pos 0)) ∷ []) ∷ []
 
 abbrev pub counter_script : List (List Txn)
 counter_script =
@@ -77,7 +77,7 @@ LostUpdateIsIllegal =
     let second : Txn = committed (Get 1 (codes "n") ∷ Set 1 (codes "n") (value.Int (pos 9)) ∷ []) in
     FitsScript (transactions_of counter_script) run.lines
     × IsNumbered (length (load_entries counter_load)) run
-    × IsInOrder run.lines
+    × KeepsSessionOrder run.lines
     × (HasReplies default_shape (graph_of_run default_shape counter_load counter_script run) second (Wrote 2 (reply.Value (value.Int (pos 0)) ∷ reply.Done ∷ [])) → ⊥)
     × (IsLegalRun default_shape counter_load counter_script run → ⊥)
 
@@ -98,7 +98,7 @@ ReaderBeforeItsOwnSectionIsIllegal =
     FitsScript (transactions_of writer_then_reader) run.lines
     × IsNumbered 0 run
     × HasReplies default_shape (graph_of_run default_shape [] writer_then_reader run) (committed (Has 7 ∷ [])) (Read 0 (reply.No ∷ []))
-    × (IsInOrder run.lines → ⊥)
+    × (KeepsSessionOrder run.lines → ⊥)
 
 -- a reader in another section stands before the writer or after it, where both answer it alike
 abbrev pub writer_and_other_reader : List (List Txn)

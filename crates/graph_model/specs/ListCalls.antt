@@ -1,16 +1,15 @@
 -- The calls that list edges and vertices, also those that pass a constraint.
-use Rattle.std.specs.Prelude.{ℕ, Bool, true, false, not, ◌&&◌, List, [], ◌∷◌, map, length, Option, Some, None, Ok, if◌then◌else◌, is_none}
+use Rattle.std.specs.Prelude.{ℕ, Bool, true, false, not, ◌&&◌, List, [], ◌∷◌, map, length, Option, Some, None, Ok, if◌then◌else◌, is_none, ◌==◌}
 use Rattle.std.specs.Option.{option_map_or}
 use Rattle.std.specs.List.{filter, list_any, list_all, flat_map}
 use Rattle.gdi_kinds.specs.declared.constraint.Atom.{Atom}
 use Rattle.gdi_kinds.specs.declared.constraint.Atom.TheVariants.{Has, Lacks, Prop}
 use Rattle.gdi_kinds.specs.declared.call.Dir.{Dir}
 use Rattle.gdi_kinds.specs.declared.edge_line.EdgeLine.{EdgeLine}
-use Rattle.gdi_kinds.specs.declared.value.Value.{Value}
 use Rattle.gdi_kinds.specs.declared.reply.Reply.TheVariants as reply
 use Rattle.gdi_kinds.specs.Constraint.{passes, kind_of, same_kind}
-use Rattle.graph_model.specs.Maps.{Map, has, set_of, keys}
-use Rattle.graph_model.specs.Graph.{Name, Graph, is_vertex}
+use Rattle.graph_model.specs.Maps.{has, set_of, keys}
+use Rattle.graph_model.specs.Graph.{Name, Props, Graph, is_vertex}
 use Rattle.graph_model.specs.Lookups.{label_number, type_number, kind_at, names_of, lines_of_props, lines_at}
 use Rattle.graph_model.specs.Steps.{◌>>=◌, Step, Answer, found_or, refused_if, leaves}
 
@@ -42,7 +41,7 @@ abbrev pub kinds_agree : Graph → List Atom → Step (Unit {0})
 kinds_agree g atoms = refused_if (list_any (is_of_wrong_kind g) atoms) reply.WrongKind
 
 -- whether labels and properties, by number, pass; all do where there is no constraint
-abbrev pub passes_test : Graph → Option (List (List Atom)) → List ℕ → Map ℕ Value → Bool
+abbrev pub passes_test : Graph → Option (List (List Atom)) → List ℕ → Props → Bool
 passes_test g None labels props = true
 passes_test g (Some test) labels props = passes test (names_of g labels) (lines_of_props g props)
 
@@ -53,8 +52,9 @@ edges g id dir test = do
   _ ← kinds_agree g (atoms_of test)
   leaves g (reply.Edges (lines_at g (λ entry. passes_test g test entry.1.labels entry.1.props) id dir))
 
-abbrev pub other_end : EdgeLine → ℕ
-other_end line = if line.inward then line.source else line.target
+-- the end of an edge across from this vertex, which is the vertex itself at a self loop
+abbrev pub other_end : ℕ → EdgeLine → ℕ
+other_end id line = if line.source == id then line.target else line.source
 
 abbrev pub every_line : Graph → ℕ → Dir → List EdgeLine
 every_line g id dir = lines_at g (λ entry. true) id dir
@@ -63,7 +63,7 @@ every_line g id dir = lines_at g (λ entry. true) id dir
 abbrev pub near : Graph → ℕ → Dir → Step Answer
 near g id dir = do
   _ ← refused_if (not (is_vertex g id)) (reply.NoVertex id)
-  leaves g (reply.Ids (set_of (map other_end (every_line g id dir))))
+  leaves g (reply.Ids (set_of (map (other_end id) (every_line g id dir))))
 
 abbrev pub degree : Graph → ℕ → Dir → Step Answer
 degree g id dir = do

@@ -9,7 +9,7 @@ use Rattle.gdi_kinds.specs.declared.outcome.Printed.{Printed}
 use Rattle.rma_layout.specs.Shape.{Shape}
 use Rattle.graph_model.specs.Placed.{pairs_of}
 use Rattle.graph_model.specs.History.{load_entries}
-use Rattle.graph_model.specs.LegalRun.{places_of, IsInOrder, HasReplies, graph_of_run, IsLegalRun}
+use Rattle.graph_model.specs.LegalRun.{reading_places, KeepsSessionOrder, HasReplies, graph_of_run, IsLegalRun}
 
 -- the same outcome, or the same replies read at another place
 abbrev pub IsMoved : Outcome → Outcome → Type 0
@@ -26,8 +26,8 @@ AreMoved (line ∷ lines) (other ∷ others) = (line.section ≡ other.section) 
 pub record MovesReadingPlaces (shape : Shape) (load : List Txn) (script : List (List Txn)) (run moved : Printed) : Type 0 where
   pub lines : AreMoved run.lines moved.lines
   pub writes : run.writes ≡ moved.writes
-  pub places : AllByRecursion (λ n. (length (load_entries load) ≤ n) × (n ≤ moved.writes)) (places_of moved.lines)
-  pub in_order : IsInOrder moved.lines
+  pub places : AllByRecursion (λ n. (length (load_entries load) ≤ n) × (n ≤ moved.writes)) (reading_places moved.lines)
+  pub in_order : KeepsSessionOrder moved.lines
   pub replies : AllByRecursion (λ pair. HasReplies shape (graph_of_run shape load script run) pair.0.txn pair.1.outcome) (pairs_of script moved.lines)
 
 abbrev pub ReadingPlacesMayMove : Type 0

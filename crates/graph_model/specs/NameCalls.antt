@@ -1,5 +1,5 @@
 -- The calls that make labels and property types.
-use Rattle.std.specs.Prelude.{[], ◌∷◌, ◌++◌, is_some}
+use Rattle.std.specs.Prelude.{Bool, [], ◌∷◌, ◌++◌, is_some}
 use Rattle.gdi_kinds.specs.declared.value.Kind.{Kind}
 use Rattle.gdi_kinds.specs.declared.reply.Reply.TheVariants as reply
 use Rattle.graph_model.specs.Graph.{Name, Graph}
@@ -17,9 +17,9 @@ new_label g name =
       leaves changed reply.Done
 
 -- the type is the last one
-abbrev pub new_type : Graph → Name → Kind → Step Answer
-new_type g name kind =
-    let changed : Graph = record g { types = g.types ++ (record { name = name; kind = kind }) ∷ [] } in
+abbrev pub new_type : Graph → Name → Kind → Bool → Step Answer
+new_type g name kind many =
+    let changed : Graph = record g { types = g.types ++ (record { name = name; kind = kind; many = many }) ∷ [] } in
     do
       _ ← refused_if (is_some (type_number g name)) reply.Exists
       _ ← refused_if (is_too_large (words_of_names changed)) reply.TooLarge

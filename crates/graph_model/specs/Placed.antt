@@ -34,11 +34,11 @@ entry_number Aborted = None
 entry_number (Full rank place) = None
 
 -- the place at which an outcome looked and wrote nothing
-abbrev pub place_of : Outcome → Option ℕ
-place_of (Wrote k replies) = None
-place_of (Read place replies) = Some place
-place_of Aborted = None
-place_of (Full rank place) = Some place
+abbrev pub reading_place : Outcome → Option ℕ
+reading_place (Wrote k replies) = None
+reading_place (Read place replies) = Some place
+reading_place Aborted = None
+reading_place (Full rank place) = Some place
 
 -- each transaction with its line
 abbrev pub pairs_of : List (List Txn) → List Line → List (Placed × Line)

@@ -1,15 +1,15 @@
 -- How many words the objects of a graph have, and how many blocks.
-use Rattle.std.specs.Prelude.{ℕ, ◌+◌, ◌-◌, ◌*◌, ◌/◌, max, Bool, ◌&&◌, length, sum_by, count_by, nat_lt, if◌then◌else◌, ◌==◌}
+use Rattle.std.specs.Prelude.{ℕ, ◌+◌, ◌-◌, ◌*◌, ◌/◌, max, Bool, ◌&&◌, List, length, sum_by, count_by, nat_lt, if◌then◌else◌, ◌==◌}
 use Rattle.gdi_kinds.specs.declared.value.Value.{Value}
 use Rattle.gdi_kinds.specs.declared.value.Value.TheVariants as value
 use Rattle.rma_layout.specs.Shape.{Shape}
+use Rattle.rma_layout.specs.declared.limits.TheConstants.{MOST_WORDS}
 use Rattle.rma_layout.specs.Placement.{Place, same_place, bucket_of, slot_of}
-use Rattle.graph_model.specs.Maps.{Map}
-use Rattle.graph_model.specs.Graph.{Graph, Vertex, Edge, edges_from, edges_to}
+use Rattle.graph_model.specs.Graph.{Props, Graph, Vertex, Edge, edges_from, edges_to}
 
 -- no object has more words
 abbrev pub most_words : ℕ
-most_words = 1048576
+most_words = MOST_WORDS
 
 abbrev pub is_too_large : ℕ → Bool
 is_too_large words = nat_lt most_words words
@@ -27,11 +27,14 @@ words_of_value (value.Int n) = 1
 words_of_value (value.Bool b) = 1
 words_of_value (value.Text text) = words_of_bytes (length text)
 
--- a property has 2 words before its value
-abbrev pub words_of_props : Map ℕ Value → ℕ
-words_of_props props = sum_by (λ entry. 2 + words_of_value entry.1) props
+-- each value has 2 words before it
+abbrev pub words_of_values : List Value → ℕ
+words_of_values values = sum_by (λ value. 2 + words_of_value value) values
 
--- a vertex has a record of each edge from it and of each edge to it, so two of a self loop
+abbrev pub words_of_props : Props → ℕ
+words_of_props props = sum_by (λ entry. words_of_values entry.1) props
+
+-- a vertex has a record of each edge whose source it is and of each edge whose target it is, so two of a self loop
 abbrev pub records_at : Graph → ℕ → ℕ
 records_at g id = length (edges_from g id) + length (edges_to g id)
 
@@ -57,6 +60,6 @@ words_of_names g =
     if length g.labels == 0 && length g.types == 0 then 0
     else 2 + sum_by (λ name. 1 + words_of_bytes (length name)) g.labels + sum_by (λ type. 2 + words_of_bytes (length type.name)) g.types
 
--- the blocks of an object: one word of each is the link to the next
-abbrev pub blocks_of : Shape → ℕ → ℕ
-blocks_of shape words = max 1 (quotient_up words (shape.words - 1))
+-- the blocks of an object of so many words: one word of each block is the link to the next
+abbrev pub blocks_of_words : Shape → ℕ → ℕ
+blocks_of_words shape words = max 1 (quotient_up words (shape.words - 1))

@@ -1,16 +1,11 @@
 -- A transaction alone on a graph.
-use Rattle.std.specs.Prelude.{Bool, List, [], ◌∷◌, if◌then◌else◌}
-use Rattle.std.specs.List.{list_any}
+use Rattle.std.specs.Prelude.{List, [], ◌∷◌, if◌then◌else◌}
 use Rattle.gdi_kinds.specs.declared.call.Call.{Call}
 use Rattle.gdi_kinds.specs.declared.reply.Reply.{Reply}
 use Rattle.gdi_kinds.specs.declared.txn.Txn.{Txn}
 use Rattle.rma_layout.specs.Shape.{Shape}
 use Rattle.graph_model.specs.Graph.{Graph}
-use Rattle.graph_model.specs.Calls.{graph_after_call, reply_to, is_writing_call}
-
--- it writes if its text has a writing call, whatever the replies are
-abbrev pub is_writing : Txn → Bool
-is_writing txn = list_any is_writing_call txn.calls
+use Rattle.graph_model.specs.Calls.{graph_after_call, reply_to}
 
 abbrev pub graph_after_calls : Shape → Graph → List Call → Graph
 graph_after_calls shape g [] = g

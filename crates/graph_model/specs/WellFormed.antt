@@ -1,5 +1,5 @@
 -- When a graph is well formed: what any run of calls leaves.
-use Rattle.std.specs.Prelude.{◌≡◌, ◌≢◌, ℕ, ◌^◌, ◌<◌, List, [], ◌∷◌, map, length, IsSome, IsSomeAnd, FitsSigned}
+use Rattle.std.specs.Prelude.{◌≡◌, ◌≢◌, ℕ, ◌^◌, ◌<◌, ◌≤◌, false, List, [], ◌∷◌, map, length, IsSome, IsSomeAnd, FitsSigned}
 use Rattle.std.specs.List.{AllByRecursion}
 use Rattle.std.specs.Int.{w64}
 use Rattle.std.specs.Ordering.{nat_cmp}
@@ -8,8 +8,8 @@ use Rattle.gdi_kinds.specs.declared.value.Value.TheVariants as value
 use Rattle.gdi_kinds.specs.Constraint.{kind_of}
 use Rattle.gdi_kinds.specs.Names.{IsName}
 use Rattle.gdi_kinds.specs.Texts.{IsText}
-use Rattle.graph_model.specs.Maps.{Map, IsMap, IsSet, item_at}
-use Rattle.graph_model.specs.Graph.{Name, Graph, Vertex, Edge, EdgeKey, edge_cmp, vertex_at}
+use Rattle.graph_model.specs.Maps.{IsMap, IsSet, item_at}
+use Rattle.graph_model.specs.Graph.{Name, PropType, Props, Graph, Vertex, Edge, EdgeKey, edge_cmp, vertex_at}
 
 -- names, none of which stands twice
 abbrev pub AreNames : List Name → Type 0
@@ -25,10 +25,16 @@ IsValue (value.Text t) = IsText t
 abbrev pub AreLabels : Graph → List ℕ → Type 0
 AreLabels g labels = IsSet labels × AllByRecursion (λ n. n < length g.labels) labels
 
--- values of types of the graph, each of its type's kind
-abbrev pub AreProps : Graph → Map ℕ Value → Type 0
+-- values of a type: of its kind, at least one, and no more where the type isn't marked
+pub record AreValues (type : PropType) (values : List Value) : Type 0 where
+  pub each : AllByRecursion (λ value. IsValue value × (type.kind ≡ kind_of value)) values
+  pub some : 1 ≤ length values
+  pub single : type.many ≡ false → length values ≡ 1
+
+-- properties of types of the graph
+abbrev pub AreProps : Graph → Props → Type 0
 AreProps g props = IsMap nat_cmp props
-    × AllByRecursion (λ entry. IsValue entry.1 × IsSomeAnd (item_at g.types entry.0) (λ type. type.kind ≡ kind_of entry.1)) props
+    × AllByRecursion (λ entry. IsSomeAnd (item_at g.types entry.0) (λ type. AreValues type entry.1)) props
 
 pub record VertexFits (g : Graph) (id : ℕ) (vertex : Vertex) : Type 0 where
   pub in_range : id < 2 ^ 64

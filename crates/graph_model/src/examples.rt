@@ -1,4 +1,4 @@
-ghost use Rattle.graph_model.specs.Examples.{ConstraintsAreRefused, PeopleAreListed, PeopleAreSearched, AbortLeavesNothing, AbsentVertexIsAnsweredNo, ComponentsIgnoreDirections, DroppedVertexGivesRoom, EdgeTurnsHeavy, FourthVertexIsFull, LabelsAndPropertiesComeAndGo, LargestVertex, LevelsInACircle, LongestTextIsKept, MadeVertexIsThere, NameIsLookedUpFirst, OrdinalsAreNotUsedAgain, SecondVertexExists, SelfLoopIsListedTwice, SizeOfOneName, SizesOfASelfLoop, VertexMadeAgain, VertexMadeAgainIsFull};
+ghost use Rattle.graph_model.specs.Examples.{OneValuePasses, SecondValueIsRefused, UndirectedEdgeIsListed, UndirectedEdgeIsNear, UndirectedEdgeIsWalkedBothWays, UndirectedSelfLoop, ValuesAreKept, ValuesOfAnEdgeAreKept, ConstraintsAreRefused, PeopleAreListed, PeopleAreSearched, AbortLeavesNothing, AbsentVertexIsAnsweredNo, ComponentsIgnoreDirections, DroppedVertexGivesRoom, EdgeTurnsHeavy, FourthVertexIsFull, LabelsAndPropertiesComeAndGo, LargestVertex, LevelsInACircle, LongestTextIsKept, MadeVertexIsThere, NameIsLookedUpFirst, OrdinalsAreNotUsedAgain, SecondVertexExists, SelfLoopIsListedTwice, SizeOfOneName, SizesOfASelfLoop, VertexMadeAgain, VertexMadeAgainIsFull};
 ghost use Rattle.graph_model.specs.LegalExamples.{AbortIsNoEntry, EmptyScriptIsLegal, FirstSectionFirstIsLegal, FullIsLegal, LostUpdateIsIllegal, OtherReaderStandsBefore, OtherReaderStandsAfter, ReaderBeforeItsOwnSectionIsIllegal, ReaderSeesItsOwnSection, ReadingOfTheEmptyGraphIsLegal, SecondSectionFirstIsLegal};
 
 /// A vertex is there from the call that makes it to the one that drops it, and an abort makes none.
@@ -11,6 +11,7 @@ pub fn vertices_come_and_go()
 {}
 
 /// A small rank is full at its fourth vertex, and has room again once one is dropped.
+#[tactic(auto, unfolding(crate::specs::Capacity::full_rank))]
 pub fn blocks_run_out()
     ensures fourth { FourthVertexIsFull }
     ensures dropped { DroppedVertexGivesRoom }
@@ -61,6 +62,7 @@ pub fn words_are_counted()
 {}
 
 /// Runs that are legal: of no transaction, of readers, of an abort, and of one that finds no block.
+#[tactic(auto, unfolding(crate::specs::Capacity::full_rank))]
 pub fn small_runs_are_legal()
     ensures empty { EmptyScriptIsLegal }
     ensures readers { ReadingOfTheEmptyGraphIsLegal }
@@ -69,6 +71,7 @@ pub fn small_runs_are_legal()
 {}
 
 /// Two sections that each read and set a property may run in either order, and may not both read the old value.
+#[tactic(auto, unfolding(crate::specs::Capacity::full_rank))]
 pub fn updates_are_not_lost()
     ensures first { FirstSectionFirstIsLegal }
     ensures second { SecondSectionFirstIsLegal }
@@ -76,12 +79,14 @@ pub fn updates_are_not_lost()
 {}
 
 /// A reader stands after what its own section wrote before it.
+#[tactic(auto, unfolding(crate::specs::Capacity::full_rank))]
 pub fn reader_follows_its_section()
     ensures after { ReaderSeesItsOwnSection }
     ensures before { ReaderBeforeItsOwnSectionIsIllegal }
 {}
 
 /// A reader in another section than the writer may stand on either side of it.
+#[tactic(auto, unfolding(crate::specs::Capacity::full_rank))]
 pub fn other_readers_may_move()
     ensures before { OtherReaderStandsBefore }
     ensures after { OtherReaderStandsAfter }
@@ -92,4 +97,20 @@ pub fn people_are_found()
     ensures listed { PeopleAreListed }
     ensures searched { PeopleAreSearched }
     ensures refused { ConstraintsAreRefused }
+{}
+
+/// A property of a marked type keeps a list of values.
+pub fn values_are_kept()
+    ensures vertex { ValuesAreKept }
+    ensures edge { ValuesOfAnEdgeAreKept }
+    ensures unmarked { SecondValueIsRefused }
+    ensures constraint { OneValuePasses }
+{}
+
+/// An undirected edge is listed at both ends and walked both ways.
+pub fn undirected_edges_are_walked_both_ways()
+    ensures listed { UndirectedEdgeIsListed }
+    ensures near { UndirectedEdgeIsNear }
+    ensures walked { UndirectedEdgeIsWalkedBothWays }
+    ensures self_loop { UndirectedSelfLoop }
 {}

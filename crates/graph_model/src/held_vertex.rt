@@ -2,7 +2,7 @@ ghost use Rattle.std.specs.Prelude.{◌≡◌};
 ghost use Rattle.graph_model.specs.Graph.{new_vertex};
 
 use crate::map_copy::copy_of_map;
-use gdi_kinds::{Duplicate, NoMemory, Value};
+use gdi_kinds::{Duplicate, NoMemory, ValueList};
 use std::alloc::Global;
 use std::collections::{BTreeMap, BTreeSet};
 use std::marker::Model;
@@ -15,7 +15,7 @@ pub(crate) struct HeldVertex {
     // The numbers of its labels.
     labels: BTreeSet<u32, Global>,
     // Its values by the numbers of their types.
-    props: BTreeMap<u32, Value, Global>,
+    props: BTreeMap<u32, ValueList, Global>,
 }
 
 impl Model for HeldVertex {

@@ -12,19 +12,21 @@ use crate::ModelRefused;
 use crate::held_vertex::HeldVertex;
 use crate::map_copy::copy_of_map;
 use gdi_kinds::{Call, NoMemory, Reply, ReplyList, Txn};
-use rma_layout::Geometry;
+use rma_layout::{Geometry, MOST_WORDS};
 use std::alloc::Global;
 use std::collections::BTreeMap;
 use std::marker::Model;
 
 // A bucket that leads to so many vertices has as many words as an object may have.
-const MOST_IN_BUCKET: u64 = 524_288;
+const MOST_IN_BUCKET: u64 = MOST_WORDS / 2;
 
-/// A graph in memory, worked on by one caller alone. Its geometry decides which calls would make an object too large.
+/// A graph in memory, worked on by one caller alone. Its geometry decides which calls would make an object too large. It
+/// keeps the allocator that `new` was given.
 ///
 /// After `NoMemory` it is only to be dropped.
 #[derive(Debug, Drop)]
 pub struct PlainGraph {
+    alloc: Global,
     geometry: Geometry,
     // By identifier.
     vertices: BTreeMap<u64, HeldVertex, Global>,
@@ -52,6 +54,7 @@ impl PlainGraph {
         ensures empty { result.graph ≡ empty_graph }
     {
         PlainGraph {
+            alloc,
             geometry,
             vertices: BTreeMap::new(alloc),
             bucket_counts: BTreeMap::new(alloc),
@@ -59,14 +62,14 @@ impl PlainGraph {
     }
 
     /// Does a call and answers its reply. So far it takes `Vertex`, `Has` and `DropVertex` alone.
-    pub fn apply(&mut self, alloc: Global, call: &Call) -> Result<Reply, ModelRefused>
+    pub fn apply(&mut self, call: &Call) -> Result<Reply, ModelRefused>
         requires { IsBareCall call.now }
         ensures shape { self.new.shape ≡ self.old.shape }
         ensures reply { IfOk result (λ reply. reply ≡ reply_to self.old.shape self.old.graph call.now) }
         ensures graph { OnOk result (self.new.graph ≡ graph_after_call self.old.shape self.old.graph call.now) }
     {
         match call {
-            Call::Vertex { id } => self.make_vertex(alloc, *id),
+            Call::Vertex { id } => self.make_vertex(*id),
             Call::Has { id } => Ok(self.has_vertex(*id)),
             Call::DropVertex { id } => Ok(self.drop_vertex(*id)),
             _ => unreachable!(),
@@ -74,40 +77,41 @@ impl PlainGraph {
     }
 
     /// Does the calls of a transaction in order and answers their replies. One that aborts leaves the graph as it was.
-    pub fn run(&mut self, alloc: Global, txn: &Txn) -> Result<ReplyList, ModelRefused>
+    pub fn run(&mut self, txn: &Txn) -> Result<ReplyList, ModelRefused>
         requires { AllByRecursion IsBareCall txn.now.calls }
         ensures shape { self.new.shape ≡ self.old.shape }
         ensures replies { IfOk result (λ replies. replies ≡ replies_to self.old.shape self.old.graph txn.now) }
         ensures graph { OnOk result (self.new.graph ≡ graph_after_txn self.old.shape self.old.graph txn.now) }
     {
         if txn.aborts {
-            let mut copy = self.copy(alloc)?;
-            return copy.run_calls(alloc, txn.calls.as_slice());
+            let mut copy = self.copy()?;
+            return copy.run_calls(txn.calls.as_slice());
         }
-        self.run_calls(alloc, txn.calls.as_slice())
+        self.run_calls(txn.calls.as_slice())
     }
 
-    fn run_calls(&mut self, alloc: Global, calls: &[Call]) -> Result<ReplyList, ModelRefused>
+    fn run_calls(&mut self, calls: &[Call]) -> Result<ReplyList, ModelRefused>
         requires { AllByRecursion IsBareCall calls.now }
         ensures shape { self.new.shape ≡ self.old.shape }
         ensures replies { IfOk result (λ replies. replies ≡ replies_to_calls self.old.shape self.old.graph calls.now) }
         ensures graph { OnOk result (self.new.graph ≡ graph_after_calls self.old.shape self.old.graph calls.now) }
     {
-        let mut replies = ReplyList::new(alloc);
+        let mut replies = ReplyList::new(self.alloc);
         for call in calls {
-            let reply = self.apply(alloc, call)?;
+            let reply = self.apply(call)?;
             replies.push(reply)?;
         }
         Ok(replies)
     }
 
-    fn copy(&self, alloc: Global) -> Result<PlainGraph, NoMemory>
+    fn copy(&self) -> Result<PlainGraph, NoMemory>
         ensures { IfOk result (λ copied. copied ≡ self.now) }
     {
         Ok(PlainGraph {
+            alloc: self.alloc,
             geometry: self.geometry,
-            vertices: copy_of_map(alloc, &self.vertices)?,
-            bucket_counts: copy_of_map(alloc, &self.bucket_counts)?,
+            vertices: copy_of_map(self.alloc, &self.vertices)?,
+            bucket_counts: copy_of_map(self.alloc, &self.bucket_counts)?,
         })
     }
 
@@ -120,7 +124,7 @@ impl PlainGraph {
         }
     }
 
-    fn make_vertex(&mut self, alloc: Global, id: u64) -> Result<Reply, ModelRefused>
+    fn make_vertex(&mut self, id: u64) -> Result<Reply, ModelRefused>
         ensures shape { self.new.shape ≡ self.old.shape }
         ensures reply { IfOk result (λ reply. reply ≡ reply_to self.old.shape self.old.graph (call.Vertex id)) }
         ensures graph { OnOk result (self.new.graph ≡ graph_after_call self.old.shape self.old.graph (call.Vertex id)) }
@@ -137,7 +141,7 @@ impl PlainGraph {
         }
         // The count stands there before the vertex does, so that raising it takes no memory.
         self.bucket_counts.insert(bucket, count)?;
-        self.vertices.insert(id, HeldVertex::new(alloc))?;
+        self.vertices.insert(id, HeldVertex::new(self.alloc))?;
         self.bucket_counts.insert(bucket, count + 1)?;
         Ok(Reply::Done)
     }

@@ -12,11 +12,29 @@ use std::test::Fail;
 fn answers_calls(rt: HostRuntime) -> Result<(), Fail> {
     let alloc = rt.alloc();
     let mut graph = PlainGraph::new(alloc, Geometry::standard());
-    assert!(rt; matches!(graph.apply(alloc, &Call::Has { id: 7 })?, Reply::No));
-    assert!(rt; matches!(graph.apply(alloc, &Call::Vertex { id: 7 })?, Reply::Done));
-    assert!(rt; matches!(graph.apply(alloc, &Call::Vertex { id: 7 })?, Reply::Exists));
-    assert!(rt; matches!(graph.apply(alloc, &Call::Has { id: 7 })?, Reply::Yes));
-    assert!(rt; matches!(graph.apply(alloc, &Call::Has { id: 8 })?, Reply::No));
+    assert!(rt; matches!(graph.apply(&Call::Has { id: 7 })?, Reply::No));
+    assert!(rt; matches!(graph.apply(&Call::Vertex { id: 7 })?, Reply::Done));
+    assert!(rt; matches!(graph.apply(&Call::Vertex { id: 7 })?, Reply::Exists));
+    assert!(rt; matches!(graph.apply(&Call::Has { id: 7 })?, Reply::Yes));
+    assert!(rt; matches!(graph.apply(&Call::Has { id: 8 })?, Reply::No));
+    Ok(())
+}
+
+#[test]
+fn many_vertices(rt: HostRuntime) -> Result<(), Fail> {
+    let mut graph = PlainGraph::new(rt.alloc(), Geometry::standard());
+    for id in 0..500u64 {
+        assert!(rt; matches!(graph.apply(&Call::Vertex { id })?, Reply::Done));
+    }
+    // Each 256th has the same bucket.
+    for n in 2..500u64 {
+        assert!(rt; matches!(graph.apply(&Call::Vertex { id: 256 * n })?, Reply::Done));
+    }
+    for id in 0..500u64 {
+        assert!(rt; matches!(graph.apply(&Call::Has { id })?, Reply::Yes));
+        assert!(rt; matches!(graph.apply(&Call::DropVertex { id })?, Reply::Done));
+    }
+    assert!(rt; matches!(graph.apply(&Call::Has { id: 499 })?, Reply::No));
     Ok(())
 }
 
@@ -24,24 +42,19 @@ fn answers_calls(rt: HostRuntime) -> Result<(), Fail> {
 fn a_dropped_vertex_may_be_made_again(rt: HostRuntime) -> Result<(), Fail> {
     let alloc = rt.alloc();
     let mut graph = PlainGraph::new(alloc, Geometry::standard());
-    assert!(rt; matches!(graph.apply(alloc, &Call::Vertex { id: 7 })?, Reply::Done));
-    assert!(rt; matches!(graph.apply(alloc, &Call::Vertex { id: 263 })?, Reply::Done));
+    assert!(rt; matches!(graph.apply(&Call::Vertex { id: 7 })?, Reply::Done));
+    assert!(rt; matches!(graph.apply(&Call::Vertex { id: 263 })?, Reply::Done));
+    assert!(rt; matches!(graph.apply(&Call::DropVertex { id: 7 })?, Reply::Done));
     assert!(rt;
         matches!(
-            graph.apply(alloc, &Call::DropVertex { id: 7 })?,
-            Reply::Done
-        )
-    );
-    assert!(rt;
-        matches!(
-            graph.apply(alloc, &Call::DropVertex { id: 7 })?,
+            graph.apply(&Call::DropVertex { id: 7 })?,
             Reply::NoVertex(7)
         )
     );
-    assert!(rt; matches!(graph.apply(alloc, &Call::Has { id: 7 })?, Reply::No));
-    assert!(rt; matches!(graph.apply(alloc, &Call::Has { id: 263 })?, Reply::Yes));
-    assert!(rt; matches!(graph.apply(alloc, &Call::Vertex { id: 7 })?, Reply::Done));
-    assert!(rt; matches!(graph.apply(alloc, &Call::Has { id: 7 })?, Reply::Yes));
+    assert!(rt; matches!(graph.apply(&Call::Has { id: 7 })?, Reply::No));
+    assert!(rt; matches!(graph.apply(&Call::Has { id: 263 })?, Reply::Yes));
+    assert!(rt; matches!(graph.apply(&Call::Vertex { id: 7 })?, Reply::Done));
+    assert!(rt; matches!(graph.apply(&Call::Has { id: 7 })?, Reply::Yes));
     Ok(())
 }
 
@@ -49,11 +62,11 @@ fn a_dropped_vertex_may_be_made_again(rt: HostRuntime) -> Result<(), Fail> {
 fn an_abort_leaves_the_graph(rt: HostRuntime) -> Result<(), Fail> {
     let alloc = rt.alloc();
     let mut graph = PlainGraph::new(alloc, Geometry::standard());
-    let aborted = graph.run(alloc, &vertex_twice(alloc, true)?)?;
-    let kept = graph.run(alloc, &vertex_twice(alloc, false)?)?;
+    let aborted = graph.run(&vertex_twice(alloc, true)?)?;
+    let kept = graph.run(&vertex_twice(alloc, false)?)?;
     assert!(rt; matches!(aborted.as_slice(), [Reply::Done, Reply::Exists, Reply::Yes]));
     assert!(rt; matches!(kept.as_slice(), [Reply::Done, Reply::Exists, Reply::Yes]));
-    assert!(rt; matches!(graph.apply(alloc, &Call::Has { id: 3 })?, Reply::Yes));
+    assert!(rt; matches!(graph.apply(&Call::Has { id: 3 })?, Reply::Yes));
     Ok(())
 }
 
@@ -61,13 +74,13 @@ fn an_abort_leaves_the_graph(rt: HostRuntime) -> Result<(), Fail> {
 fn an_aborted_drop_leaves_the_vertex(rt: HostRuntime) -> Result<(), Fail> {
     let alloc = rt.alloc();
     let mut graph = PlainGraph::new(alloc, Geometry::standard());
-    let _made = graph.run(alloc, &vertex_twice(alloc, false)?)?;
-    let aborted = graph.run(alloc, &dropped(alloc, true)?)?;
+    let _made = graph.run(&vertex_twice(alloc, false)?)?;
+    let aborted = graph.run(&dropped(alloc, true)?)?;
     assert!(rt; matches!(aborted.as_slice(), [Reply::Done, Reply::No]));
-    assert!(rt; matches!(graph.apply(alloc, &Call::Has { id: 3 })?, Reply::Yes));
-    let kept = graph.run(alloc, &dropped(alloc, false)?)?;
+    assert!(rt; matches!(graph.apply(&Call::Has { id: 3 })?, Reply::Yes));
+    let kept = graph.run(&dropped(alloc, false)?)?;
     assert!(rt; matches!(kept.as_slice(), [Reply::Done, Reply::No]));
-    assert!(rt; matches!(graph.apply(alloc, &Call::Has { id: 3 })?, Reply::No));
+    assert!(rt; matches!(graph.apply(&Call::Has { id: 3 })?, Reply::No));
     Ok(())
 }
 

@@ -1,41 +1,34 @@
 -- What a store holds of a graph that it represents has a spelling.
-use Rattle.std.proofs.Common.{◌≡◌, ℕ, zero, suc, ◌^◌, ◌<◌, Bool, true, false, ◌&&◌, ◌||◌, List, [], ◌∷◌, ◌++◌, map, length, Option, Some, None, refl, sym, ap, ◌∙◌, lt-ltb, arith}
-use Rattle.std.specs.Prelude.{IsSomeAnd, nat_lt, ◌==◌}
+use Rattle.std.proofs.Common.{◌≡◌, ℕ, ◌^◌, ◌<◌, true, false, ◌&&◌, ◌||◌, List, [], ◌∷◌, map, length, Some, refl, sym, ap, ◌∙◌, lt-ltb, arith}
+use Rattle.std.specs.Prelude.{nat_lt, ◌==◌}
 use Rattle.std.specs.List.{AllByRecursion}
 use Rattle.std.specs.Option.{unwrap_or}
 use Rattle.std.specs.Ordering.{nat_cmp, is_lt}
 use Rattle.std.specs.FinMap.{nat_cmp-IsAntisymmetric}
 use Rattle.std.specs.FinMap.Entries.{find}
-use Rattle.std.proofs.lemmas.Bool.{and_from, and_parts, cond_both, eqb-true}
+use Rattle.std.proofs.lemmas.Bool.{and_from, cond_both, eqb-true}
 use Rattle.std.proofs.lemmas.Bool.Decides.{nat_tests}
 use Rattle.std.proofs.lemmas.Nat.{mod_below}
 use Rattle.rma_layout.specs.Shape.{Shape}
 use Rattle.rma_layout.specs.Ranges.{IsInRange}
 use Rattle.rma_layout.specs.Placement.{FitsOneWord, metadata}
 use Rattle.object_words.specs.Contents.{Contents}
-use Rattle.gdi_kinds.specs.declared.value.Value.{Value}
-use Rattle.graph_model.specs.Maps.{Map, IsSet, item_at}
+use Rattle.graph_model.specs.Maps.{IsSet}
 use Rattle.graph_model.specs.Graph.{Graph, Vertex, Edge, EdgeKey, edge_cmp, vertex_at, edges_from, edges_to, is_heavy}
-use Rattle.graph_model.specs.WellFormed.{AreLabels, AreProps, EdgeFits}
+use Rattle.graph_model.specs.WellFormed.{AreLabels, EdgeFits}
 use Rattle.graph_model.proofs.Entries.{All-map, All-filter, All-find, IsMap-filter}
 use Rattle.holder_codec.specs.declared.edge_form.EdgeForm.TheVariants.{Heavy}
 use Rattle.holder_codec.specs.declared.edge_record.EdgeRecord.{EdgeRecord}
 use Rattle.holder_codec.specs.Order.{is_rising}
-use Rattle.holder_codec.specs.Values.{PropFits, is_prop_before}
 use Rattle.holder_codec.specs.Edges.{FormFits, RecordFits, is_record_before}
 use Rattle.holder_codec.specs.Vertex.{LabelFits, IsVertexHolder}
-use Rattle.holder_codec.specs.Holders.{held_props}
 use Rattle.holder_codec.specs.Represents.{object_of, edge_object_of, light_form, form_of_edge, record_at_source, record_at_target, records_of, holder_of, EdgeObjects, EdgeIsHeld, Represents}
-use Rattle.holder_codec.proofs.Maps.{is_less, All-over_map, All-append, All-both, All-unfilter, All-always, some_of, find-by_keys, rising-map}
+use Rattle.holder_codec.proofs.Maps.{All-over_map, All-append, All-both, All-unfilter, All-always, some_of, some_and, find-by_keys, rising-map, rising-append}
 use Rattle.holder_codec.proofs.Leading.{IsEntry, vertex_fits, represents_leads}
-use Rattle.holder_codec.proofs.Telling.{as_held, AreSpelled, names_within}
+use Rattle.holder_codec.proofs.Grouped.{props_fit, props_rise, are_grouped}
+use Rattle.holder_codec.proofs.Telling.{AreSpelled, names_within}
 
 -- ---- labels and properties
-
-item_within : {X : Type 0} (P : X → Type 0) (xs : List X) (n : ℕ) → IsSomeAnd (item_at xs n) P → n < length xs
-item_within P [] n is = absurd is
-item_within P (x ∷ xs) zero is = omega arith
-item_within P (x ∷ xs) (suc n) is = omega (arith, item_within P xs n is)
 
 labels_fit : (g : Graph) (labels : List ℕ) → length g.labels < 2 ^ 32 → AreLabels g labels → AllByRecursion LabelFits labels
 labels_fit g labels few are = All-map (λ n. n < length g.labels) LabelFits (λ n below. omega arith) labels are.1
@@ -44,13 +37,6 @@ labels_rise : (labels : List ℕ) → IsSet labels → is_rising nat_lt labels �
 labels_rise [] set = refl
 labels_rise (a ∷ []) set = refl
 labels_rise (a ∷ b ∷ labels) set = and_from (nat_lt a b) (is_rising nat_lt (b ∷ labels)) (lt-ltb a b set.0.0) (labels_rise (b ∷ labels) set.1)
-
-props_fit : (g : Graph) (props : Map ℕ Value) → length g.types < 2 ^ 32 → AreProps g props → AllByRecursion PropFits (held_props props)
-props_fit g props few are =
-    All-over_map PropFits as_held props (All-map _ (λ entry. PropFits (as_held entry)) (λ entry fits. let below = item_within _ g.types entry.0 fits.1 in record { number = omega arith; value = fits.0 }) props are.1)
-
-props_rise : (g : Graph) (props : Map ℕ Value) → AreProps g props → is_rising is_prop_before (held_props props) ≡ true
-props_rise g props are = rising-map nat_cmp _ is_prop_before as_held (λ a b _ _ below. is_less a.0 b.0 below) props are.1 are.0
 
 -- ---- records
 
@@ -64,19 +50,6 @@ later_from a b id at_a at_b below = grind (arith, nat_tests)
 later_to : (a b : EdgeKey) → is_lt (edge_cmp a b) ≡ true → (nat_lt a.source b.source || (a.source == b.source && nat_lt a.ordinal b.ordinal)) ≡ true
 later_to a b below = grind (arith, nat_tests)
 
-rising-append : {X : Type 0} (before : X → X → Bool) (A B : X → Type 0) → ((x y : X) → A x → B y → before x y ≡ true)
-    → (xs ys : List X) → AllByRecursion A xs → AllByRecursion B ys → is_rising before xs ≡ true → is_rising before ys ≡ true → is_rising before (xs ++ ys) ≡ true
-rising-append before A B keeps [] ys a b r s = s
-rising-append before A B keeps (x ∷ []) [] a b r s = refl
-rising-append before A B keeps (x ∷ []) (y ∷ ys) a b r s = and_from (before x y) (is_rising before (y ∷ ys)) (keeps x y a.0 b.0) s
-rising-append before A B keeps (x ∷ z ∷ xs) ys a b r s =
-    let parts = and_parts (before x z) (is_rising before (z ∷ xs)) r in
-    and_from (before x z) (is_rising before ((z ∷ xs) ++ ys)) parts.0 (rising-append before A B keeps (z ∷ xs) ys a.1 b parts.1 s)
-
-pub some_and : {X : Type 0} (P : X → Type 0) (o : Option X) → IsSomeAnd o P → (x : X) × (o ≡ Some x) × P x
-some_and P (Some x) is = (x, refl, is)
-some_and P None is = absurd is
-
 -- a record of an edge from here stands before a record of an edge to here
 out_before_in : (one other : EdgeRecord) → one.inward ≡ false → other.inward ≡ true → is_record_before one other ≡ true
 out_before_in one other out in_ = rw (out, in_) refl
@@ -84,7 +57,7 @@ out_before_in one other out in_ = rw (out, in_) refl
 -- what is known of an edge that a store holds
 pub record EdgeStands (shape : Shape) (store : Contents) (g : Graph) (edges : EdgeObjects) (entry : EdgeKey × Edge) : Type 0 where
   pub fits : EdgeFits g entry.0 entry.1
-  pub held : is_heavy entry.1 ≡ true → EdgeIsHeld shape store edges entry.0 entry.1
+  pub held : is_heavy entry.1 ≡ true → EdgeIsHeld shape store g.types edges entry.0 entry.1
 
 abbrev pub IsFrom : ℕ → EdgeKey × Edge → Type 0
 IsFrom id entry = entry.0.source ≡ id
@@ -110,12 +83,13 @@ module _ (shape : Shape) (store : Contents) (g : Graph) (r : Represents shape st
 
   pub each_stands : AllByRecursion (EdgeStands shape store g r.edges) g.edges
   each_stands =
-      All-both (λ entry. EdgeFits g entry.0 entry.1) (λ entry. is_heavy entry.1 ≡ true → EdgeIsHeld shape store r.edges entry.0 entry.1) (EdgeStands shape store g r.edges)
+      All-both (λ entry. EdgeFits g entry.0 entry.1) (λ entry. is_heavy entry.1 ≡ true → EdgeIsHeld shape store g.types r.edges entry.0 entry.1) (EdgeStands shape store g r.edges)
       (λ entry fits held. record { fits = fits; held = held }) g.edges r.well_formed.each_edge
-      (All-unfilter (λ entry. is_heavy entry.1) (λ entry. EdgeIsHeld shape store r.edges entry.0 entry.1) g.edges r.represented.held_edges)
+      (All-unfilter (λ entry. is_heavy entry.1) (λ entry. EdgeIsHeld shape store g.types r.edges entry.0 entry.1) g.edges r.represented.held_edges)
 
-  pub edge_is_spelled : (entry : EdgeKey × Edge) → EdgeStands shape store g r.edges entry → AreSpelled entry.1
-  edge_is_spelled entry stands = (labels_fit g entry.1.labels few_names.0 stands.fits.labels, props_fit g entry.1.props few_names.1 stands.fits.props)
+  pub edge_is_spelled : (entry : EdgeKey × Edge) → EdgeStands shape store g r.edges entry → AreSpelled g.types entry.1
+  edge_is_spelled entry stands =
+      (labels_fit g entry.1.labels few_names.0 stands.fits.labels, props_fit g entry.1.props few_names.1 stands.fits.props, are_grouped g entry.1.props stands.fits.props)
 
   form_fits : (entry : EdgeKey × Edge) → EdgeStands shape store g r.edges entry → FormFits (form_of_edge r.edges entry.0 entry.1)
   form_fits entry stands =

@@ -20,7 +20,7 @@ use Rattle.graph_model.proofs.Entries.{All-filter, All-find, IsMap-filter}
 use Rattle.holder_codec.specs.declared.bucket_entry.BucketEntry.{BucketEntry}
 use Rattle.holder_codec.specs.declared.bucket_holder.BucketHolder.{BucketHolder}
 use Rattle.holder_codec.specs.Bucket.{EntryFits, IsBucketHolder, is_entry_before}
-use Rattle.holder_codec.specs.Represents.{VertexObjects, object_of, IsBucket, entries_of, BucketsLead, IsFreeBlock, VertexIsHeld, Represents}
+use Rattle.holder_codec.specs.Represents.{VertexObjects, object_of, IsBucket, entries_of, BucketsLead, IsUnreserved, VertexIsHeld, Represents}
 use Rattle.holder_codec.proofs.Lengths.{bucket_same}
 use Rattle.holder_codec.proofs.Maps.{is_less, All-over_map, same_from_map, IsMap-by_keys, find-by_keys, All-from_find, rising-map}
 
@@ -80,7 +80,7 @@ buckets_fix_objects shape store one other ranges a b =
 
 -- ---- a store that represents a graph
 
-object_fits : (shape : Shape) (id : ℕ) (place : Place) → IsInRange shape → IsFreeBlock shape (id % shape.ranks) place → FitsOneWord place
+object_fits : (shape : Shape) (id : ℕ) (place : Place) → IsInRange shape → IsUnreserved shape (id % shape.ranks) place → FitsOneWord place
 object_fits shape id place ranges free =
     let rank = mod_below id shape.ranks (omega (arith, ranges.ranks)) in
     (omega (arith, free.home, ranges.ranks), omega (arith, free.block, ranges.blocks))

@@ -32,11 +32,11 @@ length-value_words (value.Int n) = refl
 length-value_words (value.Bool b) = refl
 length-value_words (value.Text t) = length-words_from (words_of_bytes (length t)) t
 
-length-label_words : (ls : List ℕ) → length (flat_map label_words ls) ≡ length ls
+pub length-label_words : (ls : List ℕ) → length (flat_map label_words ls) ≡ length ls
 length-label_words [] = refl
 length-label_words (l ∷ ls) = omega (arith, ap length (flat_map-cons label_words l ls), length-append (label_words l) (flat_map label_words ls), length-label_words ls)
 
-length-prop_words : (ps : List HeldProp) → length (flat_map prop_words ps) ≡ sum_by (λ prop. 2 + words_of_value prop.value) ps
+pub length-prop_words : (ps : List HeldProp) → length (flat_map prop_words ps) ≡ sum_by (λ prop. 2 + words_of_value prop.value) ps
 length-prop_words [] = refl
 length-prop_words (p ∷ ps) =
     omega (arith, ap length (flat_map-cons prop_words p ps), length-append (prop_words p) (flat_map prop_words ps), length-prop_words ps, length-value_words p.value, sum_by-cons (λ (prop : HeldProp). 2 + words_of_value prop.value) p ps)

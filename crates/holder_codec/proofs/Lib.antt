@@ -7,9 +7,11 @@ pub mod VertexLaws
 pub mod Lengths
 pub mod Buckets
 pub mod Maps
+pub mod Grouped
 pub mod Leading
 pub mod Telling
 pub mod Fitting
 pub mod SameVertices
 pub mod OneGraph
 pub mod Parts
+pub mod SizesAreLengths

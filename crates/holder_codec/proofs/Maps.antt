@@ -1,5 +1,6 @@
 -- Maps as lists in order: what their keys decide, what is found in them, and lists that are made of their entries.
 use Rattle.std.proofs.Common.{◌≡◌, ℕ, Bool, true, false, cond, ltb, ◌&&◌, List, [], ◌∷◌, ◌++◌, map, Option, Some, None, is_some, refl, sym, ap, ◌∙◌, arith}
+use Rattle.std.specs.Prelude.{IsSomeAnd}
 use Rattle.std.specs.List.{AllByRecursion, filter, list_any}
 use Rattle.std.specs.Ordering.{nat_cmp, is_eq, is_lt, ordering_reverse}
 use Rattle.std.specs.declared.cmp.Ordering.{Ordering}
@@ -92,6 +93,19 @@ same_fronts p (x ∷ xs) ys (z ∷ zs) ws a b c d same =
 pub none_of : {X : Type 0} (o : Option X) → is_some o ≡ false → o ≡ None
 none_of None none = refl
 none_of (Some x) none = absurd cc
+
+pub rising-append : {X : Type 0} (before : X → X → Bool) (A B : X → Type 0) → ((x y : X) → A x → B y → before x y ≡ true)
+    → (xs ys : List X) → AllByRecursion A xs → AllByRecursion B ys → is_rising before xs ≡ true → is_rising before ys ≡ true → is_rising before (xs ++ ys) ≡ true
+rising-append before A B keeps [] ys a b r s = s
+rising-append before A B keeps (x ∷ []) [] a b r s = refl
+rising-append before A B keeps (x ∷ []) (y ∷ ys) a b r s = and_from (before x y) (is_rising before (y ∷ ys)) (keeps x y a.0 b.0) s
+rising-append before A B keeps (x ∷ z ∷ xs) ys a b r s =
+    let parts = and_parts (before x z) (is_rising before (z ∷ xs)) r in
+    and_from (before x z) (is_rising before ((z ∷ xs) ++ ys)) parts.0 (rising-append before A B keeps (z ∷ xs) ys a.1 b parts.1 s)
+
+pub some_and : {X : Type 0} (P : X → Type 0) (o : Option X) → IsSomeAnd o P → (x : X) × (o ≡ Some x) × P x
+some_and P (Some x) is = (x, refl, is)
+some_and P None is = absurd is
 
 module _ {K : Type 0} (R : K → K → Ordering) where
   below_by_keys : {X Y : Type 0} (k : K) (es : Map K X) (fs : Map K Y) → keys es ≡ keys fs → below_all R k es ≡ below_all R k fs

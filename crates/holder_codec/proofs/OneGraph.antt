@@ -1,5 +1,5 @@
 -- A store represents one graph at most, and fixes the objects of its heavy edges.
-use Rattle.std.proofs.Common.{◌≡◌, ℕ, ◌≤◌, Bool, true, false, cond, ltb, List, [], ◌∷◌, map, length, Option, Some, None, refl, sym, ap, ◌∙◌, eq-eqb, ltb-false, arith, ◌⊎◌, inl, inr}
+use Rattle.std.proofs.Common.{◌≡◌, ℕ, ◌≤◌, Bool, true, false, cond, ltb, List, [], ◌∷◌, map, length, Option, Some, None, refl, sym, ap, subst, ◌∙◌, eq-eqb, ltb-false, arith, ◌⊎◌, inl, inr}
 use Rattle.std.specs.Prelude.{◌==◌}
 use Rattle.std.specs.Option.{unwrap_or}
 use Rattle.std.specs.FinMap.Entries.{find, find-where_key, same_entries}
@@ -16,10 +16,11 @@ use Rattle.graph_model.specs.WellFormed.{EdgeFits, IsWellFormed}
 use Rattle.graph_model.proofs.Entries.{All-find, IsMap-filter, edge_cmp_total, edge_cmp_same}
 use Rattle.holder_codec.specs.declared.edge_form.EdgeForm.TheVariants.{Heavy}
 use Rattle.holder_codec.specs.declared.edge_record.EdgeRecord.{EdgeRecord}
+use Rattle.holder_codec.specs.Holders.{edge_words}
 use Rattle.holder_codec.specs.Represents.{EdgeObjects, edge_object_of, light_form, record_at_source, heavy_edges, Represents}
-use Rattle.holder_codec.proofs.Maps.{All-both, All-from_maps, same_from_maps, same_fronts, find-by_keys, none-by_keys, IsMap-by_keys, found_of_filter}
-use Rattle.holder_codec.proofs.Telling.{edge_told}
-use Rattle.holder_codec.proofs.Fitting.{EdgeStands, IsFrom, some_and, edge_is_spelled, each_from, from_stand, from_outward, to_inward}
+use Rattle.holder_codec.proofs.Maps.{some_and, All-both, All-from_maps, same_from_maps, same_fronts, find-by_keys, none-by_keys, IsMap-by_keys, found_of_filter}
+use Rattle.holder_codec.proofs.Telling.{AreSpelled, IsToldEdge, edge_told}
+use Rattle.holder_codec.proofs.Fitting.{EdgeStands, IsFrom, edge_is_spelled, each_from, from_stand, from_outward, to_inward}
 use Rattle.holder_codec.proofs.SameVertices.{same_names, same_vertices, same_records, vertex_in_other}
 
 -- ---- one edge
@@ -49,13 +50,12 @@ light_is edge light =
     let none : length edge.props ≡ 0 = omega (arith, ltb-false 0 (length edge.props) parts.1) in
     (ltb-false 1 (length edge.labels) parts.0, nil_from_length edge.props none)
 
-light_same : (one other : Edge) → is_heavy one ≡ false → is_heavy other ≡ false → one.target ≡ other.target → light_form one.labels ≡ light_form other.labels → one ≡ other
+light_same : (one other : Edge) → is_heavy one ≡ false → is_heavy other ≡ false → one.target ≡ other.target → light_form one.labels ≡ light_form other.labels → IsToldEdge one other
 light_same one other light light' target form =
     let a = light_is one light in
     let b = light_is other light' in
     let labels = light_labels one.labels other.labels a.0 b.0 form in
-    let props = a.1 ∙ sym b.1 in
-    λ i. record { target = target i; labels = labels i; props = props i }
+    record { target = target; labels = labels; props = a.1 ∙ sym b.1 }
 
 -- an edge is found among those from its source
 find-edges_from : (g : Graph) (key : EdgeKey) → find edge_cmp key g.edges ≡ find edge_cmp key (edges_from g key.source)
@@ -96,12 +96,18 @@ module _ (shape : Shape) (store : Contents) (g h : Graph) (r : Represents shape 
   same_edge id a b stands stands' same =
       let source : a.0.source ≡ b.0.source = stands.1 ∙ sym stands'.1 in
       let target : a.1.target ≡ b.1.target = ap (λ (edge : EdgeRecord). edge.other) same in
-      let edge : a.1 ≡ b.1 = elim (forms_say (is_heavy a.1) (is_heavy b.1) (edge_object_of r.edges a.0) (edge_object_of s.edges b.0) a.1.labels b.1.labels (ap (λ (edge : EdgeRecord). edge.form) same)) [
-        | inl heavy ↦ edge_told a.0 b.0 a.1 b.1 (edge_is_spelled shape store g r ranges a stands.0) (edge_is_spelled shape store h s ranges b stands'.0)
-            (sym (stands.0.held heavy.0).words ∙ ap (content_of store) heavy.2 ∙ (stands'.0.held heavy.1).words)
+      let undirected : a.1.undirected ≡ b.1.undirected = ap (λ (edge : EdgeRecord). edge.undirected) same in
+      let types = (same_names shape store g h r s ranges).1 in
+      let spelled = subst (λ ts. AreSpelled ts b.1) (sym types) (edge_is_spelled shape store h s ranges b stands'.0) in
+      let told : IsToldEdge a.1 b.1 = elim (forms_say (is_heavy a.1) (is_heavy b.1) (edge_object_of r.edges a.0) (edge_object_of s.edges b.0) a.1.labels b.1.labels (ap (λ (edge : EdgeRecord). edge.form) same)) [
+        | inl heavy ↦ edge_told g.types a.0 b.0 a.1 b.1 (edge_is_spelled shape store g r ranges a stands.0) spelled
+            (sym (stands.0.held heavy.0).words ∙ ap (content_of store) heavy.2 ∙ (stands'.0.held heavy.1).words ∙ ap (λ ts. edge_words ts b.0 b.1) (sym types))
         | inr light ↦ light_same a.1 b.1 light.0 light.1 target light.2
       ] in
-      λ i. (record { source = source i; ordinal = (same i).ordinal }, edge i)
+      λ i. (
+        record { source = source i; ordinal = (same i).ordinal },
+        record { target = told.target i; undirected = undirected i; labels = told.labels i; props = told.props i },
+      )
 
   same_edges_from : (id : ℕ) (one other : Vertex) → vertex_at g id ≡ Some one → vertex_at h id ≡ Some other → edges_from g id ≡ edges_from h id
   same_edges_from id one other at_one at_other =

@@ -8,7 +8,7 @@ use Rattle.graph_model.specs.Maps.{Map}
 use Rattle.graph_model.specs.Graph.{Name, PropType, Graph, Vertex, Edge, EdgeKey}
 use Rattle.graph_model.specs.Sizes.{most_words}
 use Rattle.graph_model.proofs.Entries.{All-map}
-use Rattle.holder_codec.specs.Represents.{VertexObjects, EdgeObjects, IsFreeBlock, IsBucket, IsSlot, object_of, edge_object_of, heavy_edges, HasNames, HasBuckets, BucketsLead, HasVertices, HasHeavyEdges, HasIndex, RestIsEmpty, places_of, IsRepresented, Represents}
+use Rattle.holder_codec.specs.Represents.{VertexObjects, EdgeObjects, IsUnreserved, IsBucket, IsSlot, object_of, edge_object_of, heavy_edges, HasNames, HasBuckets, BucketsLead, HasVertices, HasHeavyEdges, HasIndex, RestIsEmpty, places_of, IsRepresented, Represents}
 use Rattle.holder_codec.specs.Parts.{IsSameAt, IsSameWhere, IsElsewhere, HasAllButBuckets}
 
 -- what holds of each of a list by two facts of it
@@ -42,9 +42,9 @@ module _ (shape : Shape) (one other : Contents) where
       → HasVertices shape one g vertices edges → HasVertices shape other g vertices edges
   vertices_kept g vertices edges same held = both _ _ _ (λ entry at is. record { place = is.place; words = sym at ∙ is.words }) g.vertices same held
 
-  pub edges_kept : (all : Map EdgeKey Edge) (edges : EdgeObjects) → AllByRecursion (λ entry. IsSameAt one other (edge_object_of edges entry.0)) (heavy_edges all)
-      → HasHeavyEdges shape one all edges → HasHeavyEdges shape other all edges
-  edges_kept all edges same held = both _ _ _ (λ entry at is. record { place = is.place; words = sym at ∙ is.words }) (heavy_edges all) same held
+  pub edges_kept : (types : List PropType) (all : Map EdgeKey Edge) (edges : EdgeObjects) → AllByRecursion (λ entry. IsSameAt one other (edge_object_of edges entry.0)) (heavy_edges all)
+      → HasHeavyEdges shape one types all edges → HasHeavyEdges shape other types all edges
+  edges_kept types all edges same held = both _ _ _ (λ entry at is. record { place = is.place; words = sym at ∙ is.words }) (heavy_edges all) same held
 
   pub index_kept : (labels : ℕ) (vertices : Map ℕ Vertex) → IsSameWhere (IsSlot shape) one other → HasIndex shape one labels vertices → HasIndex shape other labels vertices
   index_kept labels vertices same index place is = sym (same place is) ∙ index place is
@@ -56,7 +56,7 @@ module _ (shape : Shape) (one other : Contents) where
 
 -- no object of the other parts is a bucket
 module _ (shape : Shape) where
-  free_is_no_bucket : (rank : ℕ) (place : Place) → IsFreeBlock shape rank place → ¬ IsBucket shape place
+  free_is_no_bucket : (rank : ℕ) (place : Place) → IsUnreserved shape rank place → ¬ IsBucket shape place
   free_is_no_bucket rank place free is = free.unreserved (omega (arith, is.block))
 
   metadata_is_no_bucket : ¬ IsBucket shape metadata
@@ -71,7 +71,7 @@ all_but_buckets shape one other g vertices edges same is = record {
   names = names_kept one other g.labels g.types (same metadata (metadata_is_no_bucket shape)) is.names;
   held_vertices = vertices_kept shape one other g vertices edges
       (All-map _ _ (λ entry held. same (object_of vertices entry.0) (free_is_no_bucket shape _ _ held.place)) g.vertices is.held_vertices) is.held_vertices;
-  held_edges = edges_kept shape one other g.edges edges
+  held_edges = edges_kept shape one other g.types g.edges edges
       (All-map _ _ (λ entry held. same (edge_object_of edges entry.0) (free_is_no_bucket shape _ _ held.place)) (heavy_edges g.edges) is.held_edges) is.held_edges;
   index = index_kept shape one other (length g.labels) g.vertices (λ place slot. same place (slot_is_no_bucket shape place slot)) is.index;
   rest = rest_kept shape one other (places_of vertices ++ places_of edges) (λ place elsewhere. same place elsewhere.not_bucket) is.rest;
@@ -85,7 +85,7 @@ same_represented shape one other g vertices edges same is = record {
   names = names_kept one other g.labels g.types (same metadata) is.names;
   buckets = has_buckets_kept shape one other vertices (λ place _. same place) is.buckets;
   held_vertices = vertices_kept shape one other g vertices edges (each _ (λ entry. same (object_of vertices entry.0)) g.vertices) is.held_vertices;
-  held_edges = edges_kept shape one other g.edges edges (each _ (λ entry. same (edge_object_of edges entry.0)) (heavy_edges g.edges)) is.held_edges;
+  held_edges = edges_kept shape one other g.types g.edges edges (each _ (λ entry. same (edge_object_of edges entry.0)) (heavy_edges g.edges)) is.held_edges;
   index = index_kept shape one other (length g.labels) g.vertices (λ place _. same place) is.index;
   apart = is.apart;
   rest = rest_kept shape one other (places_of vertices ++ places_of edges) (λ place _. same place) is.rest;

@@ -11,17 +11,21 @@ use Rattle.object_words.proofs.Places.{to_T}
 use Rattle.graph_model.specs.Maps.{keys}
 use Rattle.graph_model.specs.Graph.{Graph, Vertex, vertex_at}
 use Rattle.holder_codec.specs.declared.vertex_holder.VertexHolder.{VertexHolder}
+use Rattle.holder_codec.specs.Holders.{held_props}
 use Rattle.holder_codec.specs.Represents.{VertexObjects, EdgeObjects, object_of, records_of, holder_of, Represents}
 use Rattle.holder_codec.proofs.Lengths.{vertex_same}
 use Rattle.holder_codec.proofs.Maps.{find-by_keys, none-by_keys}
-use Rattle.holder_codec.proofs.Leading.{buckets_fix_objects, vertex_held, represents_leads}
-use Rattle.holder_codec.proofs.Telling.{props_same, AreNames-each, AreNames-types, names_told}
+use Rattle.holder_codec.proofs.Leading.{buckets_fix_objects, vertex_fits, vertex_held, represents_leads}
+use Rattle.holder_codec.proofs.Grouped.{AreGrouped, props_same, are_grouped}
+use Rattle.holder_codec.proofs.Telling.{AreNames-each, AreNames-types, names_told}
 use Rattle.holder_codec.proofs.Fitting.{holder_fits}
 
 -- what a vertex's holder says of the vertex
-vertex_from_holder : (g h : Graph) (v w : VertexObjects) (e f : EdgeObjects) (id : ℕ) (one other : Vertex) → holder_of g v e id one ≡ holder_of h w f id other → one ≡ other
-vertex_from_holder g h v w e f id one other same =
-    let props = props_same one.props other.props (ap (λ (holder : VertexHolder). holder.props) same) in
+vertex_from_holder : (g h : Graph) (v w : VertexObjects) (e f : EdgeObjects) (id : ℕ) (one other : Vertex) → g.types ≡ h.types → AreGrouped one.props → AreGrouped other.props
+    → holder_of g v e id one ≡ holder_of h w f id other → one ≡ other
+vertex_from_holder g h v w e f id one other types a b same =
+    let held = ap (λ (holder : VertexHolder). holder.props) same ∙ ap (λ ts. held_props ts other.props) (sym types) in
+    let props = props_same g.types one.props other.props a b held in
     λ i. record { next = (same i).next; labels = (same i).labels; props = props i }
 
 module _ (shape : Shape) (store : Contents) (g h : Graph) (r : Represents shape store g) (s : Represents shape store h) (ranges : IsInRange shape) where
@@ -56,7 +60,9 @@ module _ (shape : Shape) (store : Contents) (g h : Graph) (r : Represents shape 
   same_vertex_at id None none = none ∙ sym (none-by_keys nat_cmp g.vertices h.vertices id same_keys none)
   same_vertex_at id (Some one) at_one =
       let other = vertex_in_other id one at_one in
-      let same = vertex_from_holder g h r.vertices s.vertices r.edges s.edges id one other.0 (same_holders id one other.0 at_one other.1) in
+      let props = are_grouped g one.props (vertex_fits shape store g r id one at_one).props in
+      let props' = are_grouped h other.0.props (vertex_fits shape store h s id other.0 other.1).props in
+      let same = vertex_from_holder g h r.vertices s.vertices r.edges s.edges id one other.0 same_names.1 props props' (same_holders id one other.0 at_one other.1) in
       at_one ∙ ap (λ (vertex : Vertex). Some vertex) same ∙ sym other.1
 
   pub same_vertices : g.vertices ≡ h.vertices

@@ -1,17 +1,15 @@
 -- Words that begin with a spelling tell what is spelled there: for lists, for heavy edges, and for the names.
-use Rattle.std.proofs.Common.{◌≡◌, ℕ, ◌<◌, ◌≤◌, true, eqb, leb, ◌&&◌, List, [], ◌∷◌, ◌++◌, map, length, Option, Some, refl, sym, ap, ◌∙◌, append_assoc, arith, ◌⊎◌, inl, inr}
+use Rattle.std.proofs.Common.{◌≡◌, ℕ, ◌+◌, ◌*◌, ◌<◌, ◌≤◌, Bool, true, false, eqb, leb, ◌&&◌, List, [], ◌∷◌, ◌++◌, map, length, Option, Some, refl, sym, ap, ◌∙◌, append_assoc, arith, ◌⊎◌, inl, inr}
+use Rattle.std.specs.Int.{from_bool}
 use Rattle.std.specs.List.{flat_map, list_all, AllByRecursion}
 use Rattle.std.proofs.lemmas.Bool.{and_parts, cases_Bool, eqb-true, cond-true, cond-false}
 use Rattle.std.proofs.lemmas.Bool.Decides.{nat_tests}
-use Rattle.std.proofs.lemmas.List.{append-nil, length-append, length-map, nil_from_length}
+use Rattle.std.proofs.lemmas.List.{append-nil, length-append, nil_from_length}
 use Rattle.std.proofs.lemmas.List.Concat.{flat_map-cons}
-use Rattle.gdi_kinds.specs.declared.value.Value.{Value}
 use Rattle.gdi_kinds.specs.declared.value.Kind.{Kind}
 use Rattle.gdi_kinds.specs.Names.{begins_name, continues_name, IsName}
-use Rattle.graph_model.specs.Maps.{Map}
 use Rattle.graph_model.specs.Graph.{Name, PropType, Edge, EdgeKey}
 use Rattle.graph_model.specs.WellFormed.{AreNames}
-use Rattle.holder_codec.specs.declared.held_prop.HeldProp.{HeldProp}
 use Rattle.holder_codec.specs.Texts.{byte_words}
 use Rattle.holder_codec.specs.Values.{PropFits, kind_code, prop_words}
 use Rattle.holder_codec.specs.Vertex.{LabelFits, label_words}
@@ -19,9 +17,9 @@ use Rattle.holder_codec.specs.Reading.{bytes_at, kind_of_code, prop_at, label_at
 use Rattle.holder_codec.specs.Holders.{held_props, edge_words, name_words, type_words, names_words}
 use Rattle.holder_codec.proofs.ReadLaws.{some_is, Reads}
 use Rattle.holder_codec.proofs.TextLaws.{IsBytes, bytes_again}
-use Rattle.holder_codec.proofs.ValueLaws.{AreBytes, AreBytes-at, kind_of_code_again, props}
+use Rattle.holder_codec.proofs.ValueLaws.{AreBytes, AreBytes-at, code_below, kind_of_code_again, props}
 use Rattle.holder_codec.proofs.VertexLaws.{labels}
-use Rattle.holder_codec.proofs.Maps.{same_from_map}
+use Rattle.holder_codec.proofs.Grouped.{AreGrouped, props_same}
 
 -- what is spelled in front of the same words is the same, and so is what follows
 pub record Tells {X : Type 0} (spelling : X → List ℕ) (Fits : X → Type 0) : Type 0 where
@@ -57,27 +55,28 @@ all_told spelling Fits tells xs ys f g count e =
 
 -- ---- heavy edges
 
-abbrev pub AreSpelled : Edge → Type 0
-AreSpelled edge = AllByRecursion LabelFits edge.labels × AllByRecursion PropFits (held_props edge.props)
-
-abbrev pub as_held : ℕ × Value → HeldProp
-as_held entry = record { number = entry.0; value = entry.1 }
-
-pub props_same : (one other : Map ℕ Value) → held_props one ≡ held_props other → one ≡ other
-props_same one other e = same_from_map as_held (λ prop. (prop.number, prop.value)) (λ _. refl) one other e
+abbrev pub AreSpelled : List PropType → Edge → Type 0
+AreSpelled types edge = AllByRecursion LabelFits edge.labels × AllByRecursion PropFits (held_props types edge.props) × AreGrouped edge.props
 
 -- five words in front of others
 five_heads : (a b c d n a' b' c' d' n' : ℕ) (rest more : List ℕ) → a ∷ b ∷ c ∷ d ∷ n ∷ rest ≡ a' ∷ b' ∷ c' ∷ d' ∷ n' ∷ more → (c ≡ c') × (d ≡ d') × (n ≡ n') × (rest ≡ more)
 five_heads a b c d n a' b' c' d' n' rest more e = (cc, cc, cc, cc)
 
-pub edge_told : (key key' : EdgeKey) (edge edge' : Edge) → AreSpelled edge → AreSpelled edge' → edge_words key edge ≡ edge_words key' edge' → edge ≡ edge'
-edge_told key key' edge edge' fits fits' e =
-    let heads = five_heads key.source key.ordinal edge.target (length edge.labels) (length edge.props) key'.source key'.ordinal edge'.target (length edge'.labels) (length edge'.props) _ _ e in
-    let count : length (held_props edge.props) ≡ length (held_props edge'.props) = omega (arith, length-map edge.props as_held, length-map edge'.props as_held, heads.2) in
+-- all but whether it is undirected, which its records tell
+pub record IsToldEdge (one other : Edge) : Type 0 where
+  pub target : one.target ≡ other.target
+  pub labels : one.labels ≡ other.labels
+  pub props : one.props ≡ other.props
+
+pub edge_told : (types : List PropType) (key key' : EdgeKey) (edge edge' : Edge) → AreSpelled types edge → AreSpelled types edge'
+    → edge_words types key edge ≡ edge_words types key' edge' → IsToldEdge edge edge'
+edge_told types key key' edge edge' fits fits' e =
+    let ps = held_props types edge.props in
+    let ps' = held_props types edge'.props in
+    let heads = five_heads key.source key.ordinal edge.target (length edge.labels) (length ps) key'.source key'.ordinal edge'.target (length edge'.labels) (length ps') _ _ e in
     let l = many_told label_words LabelFits (told_by_reading label_at label_words LabelFits labels) edge.labels edge'.labels _ _ fits.0 fits'.0 heads.1 heads.3 in
-    let p = all_told prop_words PropFits (told_by_reading prop_at prop_words PropFits props) (held_props edge.props) (held_props edge'.props) fits.1 fits'.1 count l.1 in
-    let same = props_same edge.props edge'.props p in
-    λ i. record { target = heads.0 i; labels = l.0 i; props = same i }
+    let p = all_told prop_words PropFits (told_by_reading prop_at prop_words PropFits props) ps ps' fits.1 fits'.1 heads.2 l.1 in
+    record { target = heads.0; labels = l.0; props = props_same types edge.props edge'.props fits.2 fits'.2 p }
 
 -- ---- names
 
@@ -122,14 +121,22 @@ IsNamed type = IsName type.name
 kind_told : (k l : Kind) → kind_code k ≡ kind_code l → k ≡ l
 kind_told k l e = some_is k l (sym (kind_of_code_again k) ∙ ap kind_of_code e ∙ kind_of_code_again l)
 
+-- the code of a kind leaves room for the mark
+mark_told : (k l : Kind) (a b : Bool) → kind_code k + 4 * from_bool a ≡ kind_code l + 4 * from_bool b → (kind_code k ≡ kind_code l) × (a ≡ b)
+mark_told k l true true e = (omega arith, refl)
+mark_told k l true false e = absurd (omega (arith, code_below k, code_below l))
+mark_told k l false true e = absurd (omega (arith, code_below k, code_below l))
+mark_told k l false false e = (omega arith, refl)
+
 pub type_told : Tells type_words IsNamed
 type_told =
     record {
       same = λ x y rest more f g e.
-          let head = one_head (kind_code x.kind) (kind_code y.kind) (name_words x.name ++ rest) (name_words y.name ++ more) e in
+          let head = one_head (kind_code x.kind + 4 * from_bool x.many) (kind_code y.kind + 4 * from_bool y.many) (name_words x.name ++ rest) (name_words y.name ++ more) e in
           let name = name_told.same x.name y.name rest more f g head.1 in
-          let kind = kind_told x.kind y.kind head.0 in
-          (λ i. record { name = name.0 i; kind = kind i }, name.1);
+          let parts = mark_told x.kind y.kind x.many y.many head.0 in
+          let kind = kind_told x.kind y.kind parts.0 in
+          (λ i. record { name = name.0 i; kind = kind i; many = parts.1 i }, name.1);
     }
 
 pub AreNames-each : (names : List Name) → AreNames names → AllByRecursion IsName names

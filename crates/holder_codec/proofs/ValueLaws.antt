@@ -7,8 +7,7 @@ use Rattle.std.specs.Str.{is_utf8}
 use Rattle.std.proofs.Math.Facts.{sfits_to_z, of_z-to_z}
 use Rattle.std.proofs.lemmas.Int.{to_z-of_z}
 use Rattle.std.proofs.lemmas.Str.{is_utf8-from_IsUtf8, IsUtf8-from_is_utf8}
-use Rattle.std.proofs.lemmas.Bool.{eqb-true, and_parts, and_from, leb-true, le-leb, ltb-true, lt-ltb, false_from_ne_true, cond_both}
-use Rattle.std.proofs.lemmas.Nat.{div-mul-add, mod-mul-add}
+use Rattle.std.proofs.lemmas.Bool.{eqb-true, and_parts, and_from, leb-true, leb-false, le-leb, ltb-true, lt-ltb, false_from_ne_true, cond_both}
 use lib.Utf8.{encode, encodes, scalar, scalars, scalar_cases}
 use Rattle.gdi_kinds.specs.Texts.{IsText, is_printable}
 use Rattle.gdi_kinds.specs.declared.text.Unfit.{Unfit}
@@ -22,7 +21,7 @@ use Rattle.graph_model.specs.WellFormed.{IsValue}
 use Rattle.holder_codec.specs.declared.held_prop.HeldProp.{HeldProp}
 use Rattle.holder_codec.specs.Reading.{IsWords, Fails, unread_of, ◌>>=◌, number_at, bytes_at, is_text, text_at, kind_of_code, bool_of, bool_at, value_at, narrow, prop_at}
 use Rattle.holder_codec.specs.Texts.{byte_words}
-use Rattle.holder_codec.specs.Values.{kind_code, byte_length, value_words, prop_words, PropFits}
+use Rattle.holder_codec.specs.Values.{kind_code, byte_length, value_words, type_word, prop_words, PropFits}
 use Rattle.holder_codec.proofs.ReadLaws.{IsWords-rest, bind_some, bind_then, guard_some, some_is, Reads, one_word, numbers}
 use Rattle.holder_codec.proofs.TextLaws.{IsBytes, bytes_takes, bytes_again}
 
@@ -129,9 +128,6 @@ bool_again : (b : Bool) (rest : List ℕ) → Unit {0} → bool_at (bool_words b
 unfolding bool_at
 bool_again b rest fits = rw (bool_of_again b) refl
 
-pub bools : Reads bool_at bool_words (λ _. Unit {0})
-bools = record { takes = bool_takes; again = bool_again }
-
 pub narrow_is : (n m : ℕ) → narrow n ≡ Some m → (n ≡ m) × (m < 2 ^ 32)
 narrow_is n m e =
     let g = guard_some (ltb n (2 ^ 32)) n m e in
@@ -151,7 +147,7 @@ kind_of_code_again kind.Int = refl
 kind_of_code_again kind.Bool = refl
 kind_of_code_again kind.Text = refl
 
-code_below : (k : Kind) → kind_code k < 4
+pub code_below : (k : Kind) → kind_code k < 4
 code_below kind.Int = omega arith
 code_below kind.Bool = omega arith
 code_below kind.Text = omega arith
@@ -199,24 +195,45 @@ value_again (value.Text t) rest fits = rw (text_again t rest fits) refl
 
 -- ---- properties
 
+-- the word in front of a value, with the mark and without it
+abbrev word_of : ℕ → ℕ → Bool → ℕ
+word_of number code many = cond many (2 ^ 63) 0 + (number * 4 + code)
+
+word_again : (number code : ℕ) (many : Bool) → number < 2 ^ 32 → code < 4
+    → (word_of number code many % 2 ^ 63 / 4 ≡ number) × (word_of number code many % 4 ≡ code) × (leb (2 ^ 63) (word_of number code many) ≡ many)
+word_again number code true few small =
+    (omega arith, omega arith, le-leb (2 ^ 63) (2 ^ 63 + (number * 4 + code)) (omega arith))
+word_again number code false few small =
+    (omega arith, omega arith, false_from_ne_true _ (λ large. omega (arith, leb-true (2 ^ 63) (0 + (number * 4 + code)) large)))
+
+word_taken : (head number code : ℕ) → head < 2 ^ 64 → head % 2 ^ 63 / 4 ≡ number → head % 4 ≡ code → head ≡ word_of number code (leb (2 ^ 63) head)
+word_taken head number code wide at small =
+    cond_both (leb (2 ^ 63) head) (2 ^ 63) 0 (λ mark. head ≡ mark + (number * 4 + code))
+    (λ marked. omega (arith, leb-true (2 ^ 63) head marked))
+    (λ plain. omega (arith, leb-false (2 ^ 63) head plain))
+
 -- two words and what follows them
 rejoin : (words one two rest : List ℕ) (m n m' n' : ℕ) → words ≡ m ∷ one → one ≡ n ∷ two → two ≡ rest → m ≡ m' → n ≡ n' → words ≡ m' ∷ n' ∷ rest
 rejoin words one two rest m n m' n' a b c d e = rw (a, b, c, d, e) refl
 
 -- what is read, over its parts
-prop_made : (words one two : List ℕ) (head size number : ℕ) (k : Kind) (v : Value × List ℕ) (x : HeldProp × List ℕ) → words ≡ head ∷ one → one ≡ size ∷ two
-    → (head / 4 ≡ number) × (number < 2 ^ 32) → head % 4 ≡ kind_code k → ValueTaken k size two v → ◌≡◌ {A = Option (HeldProp × List ℕ)} (Some (record { number = number; value = v.0 }, v.1)) (Some x)
+prop_made : (words one two : List ℕ) (head size number : ℕ) (k : Kind) (v : Value × List ℕ) (x : HeldProp × List ℕ)
+    → words ≡ head ∷ one → one ≡ size ∷ two → head < 2 ^ 64 → (head % 2 ^ 63 / 4 ≡ number) × (number < 2 ^ 32) → head % 4 ≡ kind_code k
+    → ValueTaken k size two v → ◌≡◌ {A = Option (HeldProp × List ℕ)} (Some (record { number = number; many = leb (2 ^ 63) head; value = v.0 }, v.1)) (Some x)
     → (words ≡ prop_words x.0 ++ x.1) × PropFits x.0
-prop_made words one two head size number k v x p q n code t e =
-    let head_is : head ≡ number * 4 + kind_code (kind_of v.0) = omega (arith, n.0, code, ap kind_code t.kind) in
-    let parts = rejoin words one two (value_words v.0 ++ v.1) head size (number * 4 + kind_code (kind_of v.0)) (byte_length v.0) p q t.parts head_is t.size in
-    subst (λ (y : HeldProp × List ℕ). (words ≡ prop_words y.0 ++ y.1) × PropFits y.0) (some_is (record { number = number; value = v.0 }, v.1) x e) (parts, record { number = n.1; value = t.fits })
+prop_made words one two head size number k v x p q wide n code t e =
+    let word = type_word number (kind_of v.0) (leb (2 ^ 63) head) in
+    let head_is : head ≡ word = word_taken head number (kind_code (kind_of v.0)) wide n.0 (code ∙ ap kind_code t.kind) in
+    let parts = rejoin words one two (value_words v.0 ++ v.1) head size word (byte_length v.0) p q t.parts head_is t.size in
+    subst (λ (y : HeldProp × List ℕ). (words ≡ prop_words y.0 ++ y.1) × PropFits y.0)
+    (some_is (record { number = number; many = leb (2 ^ 63) head; value = v.0 }, v.1) x e) (parts, record { number = n.1; value = t.fits })
 
-abbrev from_value : ℕ → List ℕ → ℕ → Kind → Option (HeldProp × List ℕ)
-from_value size words number k = value_at k size words >>= λ value. Some (record { number = number; value = value.0 }, value.1)
+abbrev from_value : ℕ → List ℕ → ℕ → Bool → Kind → Option (HeldProp × List ℕ)
+from_value size words number many k = value_at k size words >>= λ value. Some (record { number = number; many = many; value = value.0 }, value.1)
 
 abbrev from_head : ℕ → ℕ → List ℕ → Option (HeldProp × List ℕ)
-from_head head size words = narrow (head / 4) >>= λ number. kind_of_code (head % 4) >>= λ kind. from_value size words number kind
+from_head head size words =
+    narrow (head % 2 ^ 63 / 4) >>= λ number. kind_of_code (head % 4) >>= λ kind. from_value size words number (leb (2 ^ 63) head) kind
 
 prop_takes : (words : List ℕ) (x : HeldProp × List ℕ) → IsWords words → prop_at words ≡ Some x → (words ≡ prop_words x.0 ++ x.1) × PropFits x.0
 unfolding prop_at
@@ -227,17 +244,17 @@ prop_takes words x fits e =
     bind_then (number_at head.1) (λ size. from_head head.0 size.0 size.1) x e0 (λ size h1 e1.
     let t1 = numbers.takes head.1 size fits1 h1 in
     let fits2 = IsWords-rest head.1 (one_word size.0) size.1 t1.0 fits1 in
-    bind_then (narrow (head.0 / 4)) (λ number. kind_of_code (head.0 % 4) >>= λ k. from_value size.0 size.1 number k) x e1 (λ number h2 e2.
-    bind_then (kind_of_code (head.0 % 4)) (λ k. from_value size.0 size.1 number k) x e2 (λ k h3 e3.
-    bind_then (value_at k size.0 size.1) (λ value. Some (record { number = number; value = value.0 }, value.1)) x e3 (λ v h4 e4.
-    prop_made words head.1 size.1 head.0 size.0 number k v x t0.0 t1.0 (narrow_is (head.0 / 4) number h2) (kind_of_code_is (head.0 % 4) k h3) (value_takes k size.0 size.1 v fits2 h4) e4)))))
+    let many = leb (2 ^ 63) head.0 in
+    bind_then (narrow (head.0 % 2 ^ 63 / 4)) (λ number. kind_of_code (head.0 % 4) >>= λ k. from_value size.0 size.1 number many k) x e1 (λ number h2 e2.
+    bind_then (kind_of_code (head.0 % 4)) (λ k. from_value size.0 size.1 number many k) x e2 (λ k h3 e3.
+    bind_then (value_at k size.0 size.1) (λ value. Some (record { number = number; many = many; value = value.0 }, value.1)) x e3 (λ v h4 e4.
+    prop_made words head.1 size.1 head.0 size.0 number k v x t0.0 t1.0 t0.1 (narrow_is (head.0 % 2 ^ 63 / 4) number h2) (kind_of_code_is (head.0 % 4) k h3) (value_takes k size.0 size.1 v fits2 h4) e4)))))
 
 prop_again : (prop : HeldProp) (rest : List ℕ) → PropFits prop → prop_at (prop_words prop ++ rest) ≡ Some (prop, rest)
 unfolding prop_at
 prop_again prop rest fits =
-    let code = kind_code (kind_of prop.value) in
-    let below = code_below (kind_of prop.value) in
-    rw (div-mul-add prop.number 4 code below, mod-mul-add prop.number 4 code below, narrow_again prop.number fits.number, kind_of_code_again (kind_of prop.value), value_again prop.value rest fits.value) refl
+    let is = word_again prop.number (kind_code (kind_of prop.value)) prop.many fits.number (code_below (kind_of prop.value)) in
+    rw (is.0, is.1, is.2, narrow_again prop.number fits.number, kind_of_code_again (kind_of prop.value), value_again prop.value rest fits.value) refl
 
 pub props : Reads prop_at prop_words PropFits
 props = record { takes = prop_takes; again = prop_again }

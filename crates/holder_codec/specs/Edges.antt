@@ -1,5 +1,5 @@
 -- The records of edges at a vertex.
-use Rattle.std.specs.Prelude.{ℕ, ◌+◌, ◌^◌, ◌<◌, Bool, ◌&&◌, ◌||◌, List, [], ◌∷◌, nat_lt, ◌==◌, if◌then◌else◌}
+use Rattle.std.specs.Prelude.{ℕ, ◌+◌, ◌*◌, ◌^◌, ◌<◌, Bool, ◌&&◌, ◌||◌, List, [], ◌∷◌, nat_lt, ◌==◌, if◌then◌else◌}
 use Rattle.std.specs.Int.{from_bool}
 use Rattle.rma_layout.specs.Placement.{raw_of, FitsOneWord}
 use Rattle.holder_codec.specs.declared.edge_form.EdgeForm.{EdgeForm}
@@ -17,11 +17,15 @@ FormFits Plain = Unit {0}
 FormFits (Labelled label) = label < 2 ^ 32
 FormFits (Heavy at) = (at.rank < 2 ^ 15) × (at.block < 2 ^ 48)
 
+-- 1 for an edge to the vertex, and 2 more for an undirected one
+abbrev pub direction_word : EdgeRecord → ℕ
+direction_word edge = from_bool edge.inward + 2 * from_bool edge.undirected
+
 -- the direction, the ordinal, the vertex at the other end with its object, and the form
 abbrev pub record_words : EdgeRecord → List ℕ
-record_words edge = from_bool edge.inward ∷ edge.ordinal ∷ edge.other ∷ raw_of edge.other_at ∷ form_word edge.form ∷ []
+record_words edge = direction_word edge ∷ edge.ordinal ∷ edge.other ∷ raw_of edge.other_at ∷ form_word edge.form ∷ []
 
--- first the edges from the vertex by ordinal, then those to it by source and ordinal
+-- first the edges whose source the vertex is, by ordinal, then those whose target it is, by source and ordinal
 abbrev pub is_record_before : EdgeRecord → EdgeRecord → Bool
 is_record_before one other =
     if one.inward then other.inward && (nat_lt one.other other.other || (one.other == other.other && nat_lt one.ordinal other.ordinal))

@@ -26,6 +26,6 @@ pub record IsElsewhere (shape : Shape) (held : List Place) (place : Place) : Typ
 pub record HasAllButBuckets (shape : Shape) (store : Contents) (g : Graph) (vertices : VertexObjects) (edges : EdgeObjects) : Type 0 where
   pub names : HasNames store g.labels g.types
   pub held_vertices : HasVertices shape store g vertices edges
-  pub held_edges : HasHeavyEdges shape store g.edges edges
+  pub held_edges : HasHeavyEdges shape store g.types g.edges edges
   pub index : HasIndex shape store (length g.labels) g.vertices
   pub rest : RestIsEmpty shape store (places_of vertices ++ places_of edges)

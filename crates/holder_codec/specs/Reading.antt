@@ -131,10 +131,10 @@ unfoldable pub prop_at : List ℕ → Option (HeldProp × List ℕ)
 prop_at words = do
   head ← number_at words
   size ← number_at head.1
-  number ← narrow (head.0 / 4)
+  number ← narrow (head.0 % 2 ^ 63 / 4)
   kind ← kind_of_code (head.0 % 4)
   value ← value_at kind size.0 size.1
-  Some (record { number = number; value = value.0 }, value.1)
+  Some (record { number = number; many = nat_le (2 ^ 63) head.0; value = value.0 }, value.1)
 
 -- ---- the other items of a holder
 
@@ -149,15 +149,24 @@ form_of word =
     if word == 0 then Some Plain
     else (if nat_lt word (2 ^ 63) then (narrow (word - 1) >>= λ label. Some (Labelled label)) else Some (Heavy (place_of (word - 2 ^ 63))))
 
+-- whether an edge leads to the vertex, and whether it is undirected
+abbrev pub direction_of : ℕ → Option (Bool × Bool)
+direction_of zero = Some (false, false)
+direction_of (suc zero) = Some (true, false)
+direction_of (suc (suc zero)) = Some (false, true)
+direction_of (suc (suc (suc zero))) = Some (true, true)
+direction_of (suc (suc (suc (suc n)))) = None
+
 unfoldable pub record_at : List ℕ → Option (EdgeRecord × List ℕ)
 record_at words = do
-  inward ← bool_at words
-  ordinal ← number_at inward.1
+  direction ← number_at words
+  ends ← direction_of direction.0
+  ordinal ← number_at direction.1
   other ← number_at ordinal.1
   other_at ← place_at other.1
   word ← number_at other_at.1
   form ← form_of word.0
-  Some (record { inward = inward.0; ordinal = ordinal.0; other = other.0; other_at = other_at.0; form = form }, word.1)
+  Some (record { inward = ends.0; undirected = ends.1; ordinal = ordinal.0; other = other.0; other_at = other_at.0; form = form }, word.1)
 
 unfoldable pub entry_at : List ℕ → Option (BucketEntry × List ℕ)
 entry_at words = do

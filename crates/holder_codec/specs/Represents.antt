@@ -33,8 +33,8 @@ object_of vertices id = unwrap_or (at vertices id) metadata
 abbrev pub edge_object_of : EdgeObjects → EdgeKey → Place
 edge_object_of edges key = unwrap_or (find edge_cmp key edges) metadata
 
--- a block of this rank that isn't reserved
-pub record IsFreeBlock (shape : Shape) (rank : ℕ) (place : Place) : Type 0 where
+-- an object of this rank whose block isn't reserved
+pub record IsUnreserved (shape : Shape) (rank : ℕ) (place : Place) : Type 0 where
   pub home : place.rank ≡ rank
   pub block : place.block < shape.blocks
   pub unreserved : ¬ IsReserved shape place.block
@@ -79,13 +79,13 @@ form_of_edge edges key edge = if is_heavy edge then Heavy (edge_object_of edges 
 
 abbrev pub record_at_source : VertexObjects → EdgeObjects → EdgeKey → Edge → EdgeRecord
 record_at_source vertices edges key edge =
-    record { inward = false; ordinal = key.ordinal; other = edge.target; other_at = object_of vertices edge.target; form = form_of_edge edges key edge }
+    record { inward = false; undirected = edge.undirected; ordinal = key.ordinal; other = edge.target; other_at = object_of vertices edge.target; form = form_of_edge edges key edge }
 
 abbrev pub record_at_target : VertexObjects → EdgeObjects → EdgeKey → Edge → EdgeRecord
 record_at_target vertices edges key edge =
-    record { inward = true; ordinal = key.ordinal; other = key.source; other_at = object_of vertices key.source; form = form_of_edge edges key edge }
+    record { inward = true; undirected = edge.undirected; ordinal = key.ordinal; other = key.source; other_at = object_of vertices key.source; form = form_of_edge edges key edge }
 
--- all edges from a vertex, and then all edges to it
+-- all edges of which a vertex is the source, and then all of which it is the target
 abbrev pub records_of : Graph → VertexObjects → EdgeObjects → ℕ → List EdgeRecord
 records_of g vertices edges id =
     map (λ entry. record_at_source vertices edges entry.0 entry.1) (edges_from g id)
@@ -93,11 +93,11 @@ records_of g vertices edges id =
 
 abbrev pub holder_of : Graph → VertexObjects → EdgeObjects → ℕ → Vertex → VertexHolder
 holder_of g vertices edges id vertex =
-    record { id = id; next = vertex.next; labels = vertex.labels; props = held_props vertex.props; edges = records_of g vertices edges id }
+    record { id = id; next = vertex.next; labels = vertex.labels; props = held_props g.types vertex.props; edges = records_of g vertices edges id }
 
 -- each vertex is in an object of its own on its rank
 pub record VertexIsHeld (shape : Shape) (store : Contents) (g : Graph) (vertices : VertexObjects) (edges : EdgeObjects) (id : ℕ) (vertex : Vertex) : Type 0 where
-  pub place : IsFreeBlock shape (home_of shape id) (object_of vertices id)
+  pub place : IsUnreserved shape (home_of shape id) (object_of vertices id)
   pub words : content_of store (object_of vertices id) ≡ vertex_words (holder_of g vertices edges id vertex)
 
 abbrev pub HasVertices : Shape → Contents → Graph → VertexObjects → EdgeObjects → Type 0
@@ -107,12 +107,12 @@ abbrev pub heavy_edges : Map EdgeKey Edge → Map EdgeKey Edge
 heavy_edges edges = filter (λ entry. is_heavy entry.1) edges
 
 -- each heavy edge is in an object of its own on the rank of its source
-pub record EdgeIsHeld (shape : Shape) (store : Contents) (edges : EdgeObjects) (key : EdgeKey) (edge : Edge) : Type 0 where
-  pub place : IsFreeBlock shape (home_of shape key.source) (edge_object_of edges key)
-  pub words : content_of store (edge_object_of edges key) ≡ edge_words key edge
+pub record EdgeIsHeld (shape : Shape) (store : Contents) (types : List PropType) (edges : EdgeObjects) (key : EdgeKey) (edge : Edge) : Type 0 where
+  pub place : IsUnreserved shape (home_of shape key.source) (edge_object_of edges key)
+  pub words : content_of store (edge_object_of edges key) ≡ edge_words types key edge
 
-abbrev pub HasHeavyEdges : Shape → Contents → Map EdgeKey Edge → EdgeObjects → Type 0
-HasHeavyEdges shape store all edges = AllByRecursion (λ entry. EdgeIsHeld shape store edges entry.0 entry.1) (heavy_edges all)
+abbrev pub HasHeavyEdges : Shape → Contents → List PropType → Map EdgeKey Edge → EdgeObjects → Type 0
+HasHeavyEdges shape store types all edges = AllByRecursion (λ entry. EdgeIsHeld shape store types edges entry.0 entry.1) (heavy_edges all)
 
 -- the vertices of a label whose slot this is, by rising identifier
 abbrev pub pairs_of_label : Shape → Map ℕ Vertex → Place → ℕ → List ℕ
@@ -144,7 +144,7 @@ pub record IsRepresented (shape : Shape) (store : Contents) (g : Graph) (vertice
   pub names : HasNames store g.labels g.types
   pub buckets : HasBuckets shape store vertices
   pub held_vertices : HasVertices shape store g vertices edges
-  pub held_edges : HasHeavyEdges shape store g.edges edges
+  pub held_edges : HasHeavyEdges shape store g.types g.edges edges
   pub index : HasIndex shape store (length g.labels) g.vertices
   pub apart : AreApart (places_of vertices ++ places_of edges)
   pub rest : RestIsEmpty shape store (places_of vertices ++ places_of edges)

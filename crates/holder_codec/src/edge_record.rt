@@ -1,11 +1,11 @@
 ghost use Rattle.std.specs.Prelude.{◌≡◌};
 ghost use Rattle.holder_codec.specs.Edges.{RecordFits, record_words, is_record_before};
-ghost use Rattle.holder_codec.specs.Reading.{record_at};
+ghost use Rattle.holder_codec.specs.Reading.{Gives, direction_of, record_at};
 
 use crate::edge_form::{EdgeForm, form_of, word_of_form};
 use crate::item::Item;
 use crate::unread::Unread;
-use crate::words::{read_bool, read_number, read_pointer};
+use crate::words::{read_number, read_pointer};
 use gdi_kinds::{ListOf, NoMemory};
 use object_words::Words;
 use rma_layout::DPtr;
@@ -14,8 +14,9 @@ use std::alloc::Global;
 /// An edge as one of its two ends knows it. A self loop has two records at its vertex.
 #[derive(Clone, Copy, Debug, PartialEq, Eq)]
 pub struct EdgeRecord {
-    /// Whether the edge leads to the vertex. Else it leads from it.
+    /// Whether the vertex is the edge's target. Else it is the source.
     pub inward: bool,
+    pub undirected: bool,
     /// The number of the edge among those that its source has had, from 0.
     pub ordinal: u64,
     /// The vertex at the other end, by its identifier.
@@ -38,7 +39,7 @@ impl Item for EdgeRecord {
     ghost is_before = { is_record_before };
 
     fn write_to(&self, out: &mut Words) -> Result<(), NoMemory> {
-        out.push(u64::from(self.inward))?;
+        out.push(u64::from(self.inward) + 2 * u64::from(self.undirected))?;
         out.push(self.ordinal)?;
         out.push(self.other)?;
         out.push(self.other_at.raw())?;
@@ -47,13 +48,14 @@ impl Item for EdgeRecord {
 
     #[tactic(auto, unfolding(crate::specs::Reading::record_at))]
     fn read_from(_alloc: Global, words: &mut &[u64]) -> Result<EdgeRecord, Unread> {
-        let inward = read_bool(words)?;
+        let (inward, undirected) = direction_of(read_number(words)?)?;
         let ordinal = read_number(words)?;
         let other = read_number(words)?;
         let other_at = read_pointer(words)?;
         let form = form_of(read_number(words)?)?;
         Ok(EdgeRecord {
             inward,
+            undirected,
             ordinal,
             other,
             other_at,
@@ -71,5 +73,18 @@ impl Item for EdgeRecord {
                     || self.other == other.other && self.ordinal < other.ordinal
             }
         }
+    }
+}
+
+/// Whether an edge leads to the vertex, and whether it is undirected.
+fn direction_of(word: u64) -> Result<(bool, bool), Unread>
+    ensures { Gives (λ ends. ends) result (direction_of word) }
+{
+    match word {
+        0 => Ok((false, false)),
+        1 => Ok((true, false)),
+        2 => Ok((false, true)),
+        3 => Ok((true, true)),
+        _ => Err(Unread::NotSpelled),
     }
 }

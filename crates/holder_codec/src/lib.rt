@@ -27,8 +27,8 @@ pub use edge_record::{EdgeRecord, EdgeRecords};
 pub use held_prop::{HeldProp, HeldProps};
 pub use keeps_graph::KeepsGraph;
 pub use laws::{
-    empty_store_represents_empty_graph, spellings_differ, store_represents_one_graph,
-    words_are_counted,
+    empty_store_represents_empty_graph, sizes_are_lengths, spellings_differ,
+    store_represents_one_graph, words_are_counted,
 };
 pub use part_laws::{
     buckets_alone, parts_look_at_their_own_objects, same_contents_represent_the_same,

@@ -17,9 +17,9 @@ pub fn parts_look_at_their_own_objects()
     ensures vertices { (shape : Shape) (one other : Contents) (g : Graph) (vertices : VertexObjects) (edges : EdgeObjects) →
         AllByRecursion (λ entry. IsSameAt one other (object_of vertices entry.0)) g.vertices →
         HasVertices shape one g vertices edges → HasVertices shape other g vertices edges }
-    ensures heavy_edges { (shape : Shape) (one other : Contents) (all : Map EdgeKey Edge) (edges : EdgeObjects) →
+    ensures heavy_edges { (shape : Shape) (one other : Contents) (types : List PropType) (all : Map EdgeKey Edge) (edges : EdgeObjects) →
         AllByRecursion (λ entry. IsSameAt one other (edge_object_of edges entry.0)) (heavy_edges all) →
-        HasHeavyEdges shape one all edges → HasHeavyEdges shape other all edges }
+        HasHeavyEdges shape one types all edges → HasHeavyEdges shape other types all edges }
     ensures index { (shape : Shape) (one other : Contents) (labels : ℕ) (vertices : Map ℕ Vertex) →
         IsSameWhere (IsSlot shape) one other → HasIndex shape one labels vertices → HasIndex shape other labels vertices }
     ensures rest { (shape : Shape) (one other : Contents) (held : List Place) →

@@ -8,8 +8,8 @@ ghost use Rattle.holder_codec.specs.Keeping.{keeps_by_steps};
 use crate::{
     BucketHolder, EdgeForm, EdgeRecord, KeepsGraph, VertexHolder, buckets_alone,
     empty_store_represents_empty_graph, parts_look_at_their_own_objects,
-    same_contents_represent_the_same, spellings_differ, store_represents_one_graph,
-    words_are_counted,
+    same_contents_represent_the_same, sizes_are_lengths, spellings_differ,
+    store_represents_one_graph, words_are_counted,
 };
 use gdi_kinds::{NoMemory, Value};
 use object_words::{Law, Words};
@@ -19,6 +19,9 @@ use std::test::Fail;
 
 /// Block 81 of rank 1.
 const AT: u64 = 281_474_976_710_737;
+
+/// The word of a value of the marked type 0 of integers.
+const MARKED: u64 = 9_223_372_036_854_775_808;
 
 /// An entry fits exactly where each store that represents a graph, and in which it reads what it read, represents one
 /// once its writes are put over it.
@@ -42,6 +45,7 @@ fn laws(_rt: HostRuntime) {
     spellings_differ();
     store_represents_one_graph();
     words_are_counted();
+    sizes_are_lengths();
     empty_store_represents_empty_graph();
     parts_look_at_their_own_objects();
     buckets_alone();
@@ -105,9 +109,73 @@ fn vertices(rt: HostRuntime) -> Result<(), Fail> {
             [5, 1, 0, 0, 2, 1, 0, 5, AT, 0, 0, 0, 5, AT, 0].as_slice(),
             false,
         ),
+        (
+            [5, 1, 0, 0, 2, 2, 0, 5, AT, 0, 3, 0, 5, AT, 0].as_slice(),
+            true,
+        ),
+        (
+            [5, 1, 0, 0, 2, 4, 0, 5, AT, 0, 5, 0, 5, AT, 0].as_slice(),
+            false,
+        ),
     ] {
         assert_eq!(rt; is_vertex(&rt, numbers)?, is, "{numbers:?}");
     }
+    Ok(())
+}
+
+#[test]
+fn lists_of_values(rt: HostRuntime) -> Result<(), Fail> {
+    for (one, other, is) in [
+        (MARKED, MARKED, true),
+        (0, 0, false),
+        (MARKED, 0, false),
+        (0, MARKED, false),
+        (MARKED, MARKED + 4, true),
+        (MARKED, MARKED + 1, false),
+        (MARKED, 4, true),
+    ] {
+        let numbers = [1, 0, 0, 2, 0, one, 8, 5, other, 8, 3];
+        assert_eq!(rt; is_vertex(&rt, &numbers)?, is, "{numbers:?}");
+    }
+    let words = words_of(rt.alloc(), &[1, 0, 0, 2, 0, MARKED, 8, 5, MARKED, 8, 3])?;
+    let vertex = VertexHolder::read(rt.alloc(), &words)?.ok_or("a vertex")?;
+    assert_eq!(rt; vertex.props.len(), 2);
+    let last = vertex.props.at(1);
+    assert_eq!(rt; (last.number, last.many), (0, true));
+    assert!(rt; matches!(last.value, Value::Int(3)));
+    Ok(())
+}
+
+#[test]
+fn undirected_edge(rt: HostRuntime) -> Result<(), Fail> {
+    // An undirected edge and a directed one, at their source and at their target.
+    for (directions, inward) in [([2, 0], false), ([3, 1], true)] {
+        let [one, other] = directions;
+        let words = words_of(
+            rt.alloc(),
+            &[1, 2, 0, 0, 2, one, 0, 2, AT, 0, other, 1, 2, AT, 0],
+        )?;
+        let vertex = VertexHolder::read(rt.alloc(), &words)?.ok_or("a vertex")?;
+        let (undirected, directed) = (vertex.edges.at(0), vertex.edges.at(1));
+        assert_eq!(rt; (undirected.inward, undirected.undirected), (inward, true));
+        assert_eq!(rt; (directed.inward, directed.undirected), (inward, false));
+        let again = vertex.write(rt.alloc())?;
+        assert_eq!(rt; again.as_slice(), words.as_slice());
+    }
+    Ok(())
+}
+
+#[test]
+fn large_bucket(rt: HostRuntime) -> Result<(), Fail> {
+    let mut words = Words::new(rt.alloc());
+    for n in 0..500u64 {
+        words.push(256 * n)?;
+        words.push(AT + n)?;
+    }
+    let bucket = BucketHolder::read(rt.alloc(), &words)?.ok_or("a bucket")?;
+    let again = bucket.write(rt.alloc())?;
+    assert_eq!(rt; (bucket.entries.len(), again.len()), (500, 1000));
+    assert_eq!(rt; again.as_slice(), words.as_slice());
     Ok(())
 }
 
@@ -119,7 +187,7 @@ fn label_and_property(rt: HostRuntime) -> Result<(), Fail> {
     assert_eq!(rt; vertex.labels.as_slice(), [0].as_slice());
     assert_eq!(rt; vertex.props.len(), 1);
     let prop = vertex.props.at(0);
-    assert_eq!(rt; prop.number, 0);
+    assert_eq!(rt; (prop.number, prop.many), (0, false));
     assert!(rt; matches!(prop.value, Value::Int(36)));
     Ok(())
 }
@@ -130,6 +198,7 @@ fn self_loop(rt: HostRuntime) -> Result<(), Fail> {
     let vertex = VertexHolder::read(rt.alloc(), &words)?.ok_or("a vertex")?;
     let outward = EdgeRecord {
         inward: false,
+        undirected: false,
         ordinal: 0,
         other: 5,
         other_at: DPtr::new(1, 81),

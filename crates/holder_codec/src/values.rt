@@ -1,5 +1,5 @@
 ghost use Rattle.std.specs.Prelude.{◌≡◌, ◌<◌, ◌++◌, OnOk};
-ghost use Rattle.gdi_kinds.specs.Constraint.{kind_of};
+ghost use Rattle.gdi_kinds.specs.Constraint.{kind_of, same_kind};
 ghost use Rattle.holder_codec.specs.Reading.{Gives, kind_of_code, value_at};
 ghost use Rattle.holder_codec.specs.Values.{kind_code, byte_length, value_words};
 
@@ -42,6 +42,16 @@ pub(crate) fn kind_of(value: &Value) -> Kind
         Value::Int(_) => Kind::Int,
         Value::Bool(_) => Kind::Bool,
         Value::Text(_) => Kind::Text,
+    }
+}
+
+/// Whether two kinds are one.
+pub(crate) fn is_same_kind(one: Kind, other: Kind) -> bool
+    ensures { result ≡ same_kind one other }
+{
+    match (one, other) {
+        (Kind::Int, Kind::Int) | (Kind::Bool, Kind::Bool) | (Kind::Text, Kind::Text) => true,
+        _ => false,
     }
 }
 

@@ -20,9 +20,10 @@ pub struct VertexHolder {
     pub next: u64,
     /// The numbers of the labels, rising.
     pub labels: U32List,
-    /// The properties by rising type.
+    /// The values of the properties by rising type. Those of one type stand in their order.
     pub props: HeldProps,
-    /// First the edges from the vertex by rising ordinal, then those to it by rising source and ordinal.
+    /// First the edges whose source it is by rising ordinal, then those whose target it is by rising source and
+    /// ordinal, directed and undirected ones mixed.
     pub edges: EdgeRecords,
 }
 

@@ -1,4 +1,4 @@
 pub mod Entries
 pub mod Places
-pub mod Calls
-pub mod Following
+pub mod Knows
+pub mod InBuckets

@@ -1,17 +1,14 @@
 //! Which object holds the vertex of an identifier: the buckets of a store, as a transaction finds and changes them.
 #![tactic(auto)]
 
-mod adding;
 mod bucket;
-mod finding;
+mod calls;
 mod laws;
-mod removing;
-mod room_for_one;
 #[cfg(test)]
 mod tests;
 
-pub use adding::add;
-pub use finding::find;
-pub use laws::calls_may_follow;
-pub use removing::remove;
-pub use room_for_one::room;
+pub use calls::add::add;
+pub use calls::find::find;
+pub use calls::remove::remove;
+pub use calls::room::room;
+pub use laws::{knowledge_stays, some_vertices_are_all};

@@ -9,3 +9,4 @@ pub mod Working
 pub mod PlainFacts
 pub mod Opening
 pub mod Whole
+pub mod Works

@@ -8,14 +8,13 @@ use Rattle.object_words.specs.Contents.{Contents, content_of, words_at, with_wor
 use Rattle.object_words.specs.Blocks.{empty_objects}
 use Rattle.object_words.specs.Entries.{store_after}
 use Rattle.object_store.specs.declared.phase.Phase.TheVariants.{Writing}
-use Rattle.object_store.specs.declared.plain_refused.PlainRefused.TheVariants.{Empty, NoMemory}
+use Rattle.object_store.specs.declared.plain_refused.PlainRefused.TheVariants.{Empty}
 use Rattle.object_store.specs.declared.transaction.Transaction.{Transaction}
-use Rattle.object_store.specs.State.{names_rank}
 use Rattle.object_store.specs.Sound.{KeepsCommits}
 use Rattle.object_store.specs.Calls.{MakesObject}
 use Rattle.object_store.specs.Refusals.{RefusesFresh}
 use Rattle.object_store.specs.Ledger.{Account}
-use Rattle.object_store.specs.Plain.{plain_state, IsFirstVacant, IsNoneVacant}
+use Rattle.object_store.specs.Plain.{plain_state, said_by, IsFirstVacant, IsNoneVacant}
 use Rattle.object_store.proofs.Committing.{no_transaction}
 use Rattle.object_store.proofs.Staying.{stays_read}
 use Rattle.object_store.proofs.Counting.{all_made, not_all_made}
@@ -30,7 +29,7 @@ same_told f g n e = let same : f ≡ g = cc e in ap (λ h. h n) same
 
 module _ {N : Type 0} (shape new_shape : Shape) (table now : TableId) (txn new_txn : Transaction) (account new : Account N) (committed : Contents) (home : ℕ) where
   keeps : new ≡ account → KeepsCommits (plain_state shape table txn account) (plain_state new_shape now new_txn new)
-  keeps is = record { own = ap (λ a. a.own) is; allowance = ap (λ a. 2 ^ 62 - length a.seen) is }
+  keeps is = record { own = ap (λ a. a.own) is; allowance = ap (λ a. 2 ^ 62 - length a.seen) is; seen = λ _. ap (λ a. a.seen) is }
 
   pub fresh_done : (object : Place) → new_shape ≡ shape → new ≡ account → txn.phase ≡ Writing
       → new_txn ≡ record { phase = Writing; reads = with_words txn.reads object []; writes = with_words txn.writes object [] }
@@ -46,11 +45,14 @@ module _ {N : Type 0} (shape new_shape : Shape) (table now : TableId) (txn new_t
         unwritten = parts.1;
         reads = ap (λ t. t.reads) made;
         writes = ap (λ t. t.writes) made;
-        goes_on = record {
+        stays = record {
+          shape = s;
           phase = ap (λ t. t.phase) made ∙ sym phase;
           commits = keeps is;
           most = ap (λ sh. Some (λ rank. empty_objects sh (store_after new.seen) rank)) s ∙ ap (λ a. Some (λ rank. empty_objects shape (store_after a.seen) rank)) is;
           strict = refl;
+          tries = refl;
+          changes = refl;
           reads = λ other words h. ap (λ t. words_at t.reads other) made
               ∙ stays_read txn.reads (store_after account.seen) object [] agrees (sym (same object) ∙ parts.0) other words h;
         };
@@ -60,10 +62,11 @@ module _ {N : Type 0} (shape new_shape : Shape) (table now : TableId) (txn new_t
       }
 
   pub fresh_refused : new ≡ account → new_txn ≡ no_transaction → IsSameContents committed (store_after account.seen) → IsNoneVacant shape committed txn.writes home
-      → RefusesFresh home (plain_state shape table txn account) (plain_state new_shape now new_txn new) (names_rank home) (Empty home ≡ NoMemory)
+      → RefusesFresh home (plain_state shape table txn account) (plain_state new_shape now new_txn new) (said_by (Empty home))
   fresh_refused is ended same none = record {
     aborted = record { commits = keeps is; ended = record { phase = ap (λ t. t.phase) ended; reads = ap (λ t. t.reads) ended; writes = ap (λ t. t.writes) ended } };
     names = inr (inl refl);
-    memory = λ _. inr refl;
+    told = λ _. inr refl;
+    passing = refl;
     full = λ most told _. all_made shape committed (store_after account.seen) txn.writes home same none ∙ same_told (λ rank. empty_objects shape (store_after account.seen) rank) most home told;
   }

@@ -6,11 +6,11 @@ use Rattle.object_words.specs.Entries.{Entry}
 use Rattle.object_store.specs.declared.transaction.Transaction.{Transaction}
 use Rattle.object_store.specs.Ledger.{Account, opened}
 use Rattle.object_store.specs.Sound.{IsSound}
-use Rattle.object_store.specs.Plain.{plain_state, IsPlain, IsNew}
+use Rattle.object_store.specs.Plain.{plain_state, StandsAlone, IsNew}
 use Rattle.object_store.proofs.Committing.{no_transaction}
 use Rattle.object_store.proofs.Whole.{ranks_are_rights}
 
-pub plain_is : {N : Type 0} (shape : Shape) (table : TableId) (txn : Transaction) (account : Account N) → IsPlain (plain_state shape table txn account)
+pub plain_is : {N : Type 0} (shape : Shape) (table : TableId) (txn : Transaction) (account : Account N) → StandsAlone (plain_state shape table txn account)
 plain_is shape table txn account = record {
   every_right = ranks_are_rights shape.ranks;
   clean = refl;
@@ -18,12 +18,14 @@ plain_is shape table txn account = record {
   strict = refl;
   counts_blocks = refl;
   allowance = refl;
+  tries = refl;
+  takes = refl;
+  changes = refl;
 }
 
 new_sound : {N : Type 0} (fits : Shape → Entry N → Type 0) (shape : Shape) (table : TableId) → IsSound fits (plain_state shape table no_transaction (opened {N = N} shape))
 new_sound fits shape table = record {
-  reads = tt;
-  room = λ never. absurd (cc never);
+  legal = record { maps = λ k entry below. absurd (omega arith); reads = tt; blocks = λ never. absurd (cc never) };
   fit = λ k entry below. absurd (omega arith);
   agrees = λ object words never. absurd (cc never);
   reads_in_order = refl;

@@ -4,7 +4,7 @@ use Rattle.std.specs.Prelude.{is_some, if◌then◌else◌}
 use Rattle.std.specs.Option.{unwrap_or}
 use Rattle.std.specs.Ordering.{eq_by_cmp}
 use Rattle.rma_layout.specs.Placement.{Place}
-use Rattle.object_words.specs.Contents.{Contents, place_cmp, words_at, content_of, with_words, Agrees, IsInOrder}
+use Rattle.object_words.specs.Contents.{Contents, place_cmp, words_at, content_of, with_words, Agrees, IsByRisingObject}
 use Rattle.object_words.proofs.Places.{words_at-with_words, places_equal, in_order-with_words}
 use Rattle.gdi_kinds.specs.declared.no_memory.NoMemory.{NoMemory}
 use Rattle.object_store.specs.declared.transaction.Transaction.{Transaction}
@@ -33,10 +33,10 @@ pub agrees-read : (b : Bool) (reads new contents : Contents) (object : Place) (w
 agrees-read true reads new contents object words agrees is e = subst (λ (r : Contents). Agrees r contents) (sym e) agrees
 agrees-read false reads new contents object words agrees is e = subst (λ (r : Contents). Agrees r contents) (sym e) (agrees-with_words reads contents object words agrees (is refl))
 
-pub in_order-read : (b : Bool) (reads new : Contents) (object : Place) (words : List ℕ) → IsInOrder reads
-    → new ≡ (if b then reads else with_words reads object words) → IsInOrder new
-in_order-read true reads new object words h e = subst IsInOrder (sym e) h
-in_order-read false reads new object words h e = subst IsInOrder (sym e) (in_order-with_words reads object words h)
+pub in_order-read : (b : Bool) (reads new : Contents) (object : Place) (words : List ℕ) → IsByRisingObject reads
+    → new ≡ (if b then reads else with_words reads object words) → IsByRisingObject new
+in_order-read true reads new object words h e = subst IsByRisingObject (sym e) h
+in_order-read false reads new object words h e = subst IsByRisingObject (sym e) (in_order-with_words reads object words h)
 
 -- the words found where none were written
 pub found_committed : (written : Option (List ℕ)) (committed words : List ℕ) → words ≡ unwrap_or written committed → is_some written ≡ false → committed ≡ words
@@ -51,9 +51,9 @@ pub may_have_put : (result : Result (Unit {0}) NoMemory) (old new : Contents) (o
     → OnOk result (new ≡ with_words old object words) → OnErr result (new ≡ old) → MayHavePut old new object words
 may_have_put result old new object words ok err = by_result result ok err (λ is. inr is) (λ is. inl is)
 
-pub in_order-put : (old new : Contents) (object : Place) (words : List ℕ) → MayHavePut old new object words → IsInOrder old → IsInOrder new
-in_order-put old new object words (inl is) h = subst IsInOrder (sym is) h
-in_order-put old new object words (inr is) h = subst IsInOrder (sym is) (in_order-with_words old object words h)
+pub in_order-put : (old new : Contents) (object : Place) (words : List ℕ) → MayHavePut old new object words → IsByRisingObject old → IsByRisingObject new
+in_order-put old new object words (inl is) h = subst IsByRisingObject (sym is) h
+in_order-put old new object words (inr is) h = subst IsByRisingObject (sym is) (in_order-with_words old object words h)
 
 pub held-put : (contents old new : Contents) (object : Place) (words : List ℕ) → MayHavePut old new object words
     → ((other : Place) → is_some (words_at old other) ≡ true → is_some (words_at contents other) ≡ true)
@@ -80,6 +80,6 @@ agrees-answer (Err none) old new committed contents object found reads err same 
 
 pub in_order-answer : (result : Result (List ℕ) NoMemory) (old new : Transaction) (object : Place)
     → IfOk result (λ words. new.reads ≡ (if is_some (words_at old.writes object) then old.reads else with_words old.reads object words))
-    → OnErr result (new ≡ old) → IsInOrder old.reads → IsInOrder new.reads
+    → OnErr result (new ≡ old) → IsByRisingObject old.reads → IsByRisingObject new.reads
 in_order-answer (Ok words) old new object reads err h = in_order-read (is_some (words_at old.writes object)) old.reads new.reads object words h reads
-in_order-answer (Err none) old new object reads err h = subst (λ (t : Transaction). IsInOrder t.reads) (sym err) h
+in_order-answer (Err none) old new object reads err h = subst (λ (t : Transaction). IsByRisingObject t.reads) (sym err) h

@@ -7,7 +7,7 @@ use Rattle.rma_layout.specs.Shape.{Shape}
 use Rattle.object_words.specs.Contents.{overlay}
 use Rattle.object_words.specs.Entries.{Entry, store_after}
 use Rattle.object_words.proofs.Histories.{contents_after-push}
-use Rattle.object_store.specs.State.{StoreState, HasEveryRight, committed, entry_of}
+use Rattle.object_store.specs.State.{StoreState, HasEveryRight, committed, next_entry}
 use Rattle.object_store.specs.Sound.{Continues, IsSound, KeepsCommits}
 use Rattle.object_store.specs.Calls.{Commits}
 use Rattle.object_store.proofs.Committing.{get_last}
@@ -44,14 +44,14 @@ module _ {N : Type 0} (fits : Shape → Entry N → Type 0) (old new : StoreStat
       let own : range_with_len 0 (length new.seen) ≡ range_with_len 0 (length old.seen) ++ number ∷ [] = sym owned ∙ (commits.own ∙ ap (λ own. own ++ number ∷ []) (sound.own every)) in
       omega (arith, commits.last, length-range_with_len 0 (length new.seen), ap length own, length-append (range_with_len 0 (length old.seen)) (number ∷ []), length-range_with_len 0 (length old.seen))
 
-  pub commit_adds : (note : N) (number : ℕ) → Commits note old new number → new.seen ≡ old.seen ++ entry_of old note ∷ []
+  pub commit_adds : (note : N) (number : ℕ) → Commits note old new number → new.seen ≡ old.seen ++ next_entry old note ∷ []
   commit_adds note number commits =
       let n = commit_number note number commits in
       let len : length (old.seen ++ continues.seen.0) ≡ length old.seen + 1 = ap length continues.seen.1 ∙ (commits.last ∙ ap (λ k. k + 1) n) in
-      let last : slice_get (old.seen ++ continues.seen.0) (length old.seen) ≡ Some (entry_of old note) =
+      let last : slice_get (old.seen ++ continues.seen.0) (length old.seen) ≡ Some (next_entry old note) =
       ap (λ xs. slice_get xs (length old.seen)) continues.seen.1 ∙ (ap (slice_get new.seen) (sym n) ∙ commits.entry) in
-      sym continues.seen.1 ∙ one_more old.seen continues.seen.0 (entry_of old note) len last
+      sym continues.seen.1 ∙ one_more old.seen continues.seen.0 (next_entry old note) len last
 
   pub commit_writes : (note : N) (number : ℕ) → Commits note old new number → committed new ≡ overlay (committed old) old.writes
   commit_writes note number commits =
-      ap store_after (commit_adds note number commits) ∙ contents_after-push [] old.seen (entry_of old note)
+      ap store_after (commit_adds note number commits) ∙ contents_after-push [] old.seen (next_entry old note)

@@ -1,9 +1,9 @@
 -- The history of a plain store: one word counts its entries, and the one seat has seen them all.
-use Rattle.std.specs.Prelude.{◌≡◌, ℕ, ◌^◌, ◌≤◌, List, [], ◌∷◌, ◌++◌, length, Option, Some}
+use Rattle.std.specs.Prelude.{◌≡◌, ℕ, ◌^◌, ◌≤◌, false, List, [], ◌∷◌, ◌++◌, length, Option, Some}
 use Rattle.std.specs.List.{All, range_with_len}
 use Rattle.atomic_table.specs.Table.{State, Me}
 use Rattle.rma_layout.specs.Shape.{Shape}
-use Rattle.object_words.specs.Entries.{Entry, ReadsAgree}
+use Rattle.object_words.specs.Entries.{Entry, IsLegalHistory}
 
 -- what the seat knows
 pub record Account (N : Type 0) : Type 0 where
@@ -14,12 +14,12 @@ pub record Account (N : Type 0) : Type 0 where
 abbrev pub opened : {N : Type 0} → Shape → Account N
 opened shape = record { shape = shape; seen = []; own = [] }
 
-abbrev pub with_entry : {N : Type 0} → Account N → Entry N → Account N
-with_entry account entry = record { shape = account.shape; seen = account.seen ++ entry ∷ []; own = account.own ++ length account.seen ∷ [] }
+abbrev pub account_with : {N : Type 0} → Account N → Entry N → Account N
+account_with account entry = record { shape = account.shape; seen = account.seen ++ entry ∷ []; own = account.own ++ length account.seen ∷ [] }
 
 -- the history is legal, its entries fit, and all of them are the store's own
 pub record IsHistory {N : Type 0} (fits : Shape → Entry N → Type 0) (account : Account N) : Type 0 where
-  pub reads : ReadsAgree account.seen
+  pub legal : IsLegalHistory false account.shape account.seen
   pub fit : All (fits account.shape) account.seen
   pub own : account.own ≡ range_with_len 0 (length account.seen)
   pub few : length account.seen ≤ 2 ^ 62
@@ -41,6 +41,6 @@ pub record Looks {S N : Type 0} (fits : Shape → Entry N → Type 0) (before : 
 pub record Places {S N : Type 0} (placed : Option (Entry N)) (fits : Shape → Entry N → Type 0) (before : Me S (Account N)) (found : ℕ) (after : Me S (Account N)) : Type 0 where
   pub entry : Entry N
   pub said : placed ≡ Some entry
-  pub same : after ≡ (with_entry before.0 entry, before.1)
+  pub same : after ≡ (account_with before.0 entry, before.1)
   pub length_is : found ≡ length before.0.seen
   pub history : IsHistory fits after.0

@@ -5,3 +5,4 @@ pub mod Refusals
 pub mod Map
 pub mod Ledger
 pub mod Plain
+pub mod Works

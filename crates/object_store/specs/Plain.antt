@@ -1,5 +1,5 @@
 -- The plain store: what it is as a store, and which object it makes next.
-use Rattle.std.specs.Prelude.{[], ◌≡◌, ℕ, ◌-◌, ◌^◌, ◌<◌, ◌≤◌, Bool, true, false, not, ◌&&◌, is_some, Some, length}
+use Rattle.std.specs.Prelude.{[], refl, ◌≡◌, ℕ, ◌-◌, ◌^◌, ◌<◌, ◌≤◌, Bool, true, false, not, ◌&&◌, is_some, Some, length}
 use Rattle.std.specs.List.{range_with_len}
 use Rattle.atomic_table.specs.Seated.{TableId}
 use Rattle.rma_layout.specs.Shape.{Shape, reserved_blocks}
@@ -10,7 +10,7 @@ use Rattle.object_words.specs.Entries.{Entry, store_after}
 use Rattle.object_store.specs.declared.transaction.Transaction.{Transaction}
 use Rattle.object_store.specs.declared.plain_refused.PlainRefused.{PlainRefused}
 use Rattle.object_store.specs.declared.plain_refused.PlainRefused.TheVariants.{Empty, NoMemory}
-use Rattle.object_store.specs.State.{StoreState, Named, names_nothing, names_rank, HasEveryRight, committed}
+use Rattle.object_store.specs.State.{StoreState, Said, names_nothing, names_rank, HasEveryRight, committed}
 use Rattle.object_store.specs.Sound.{IsSound}
 use Rattle.object_store.specs.declared.phase.Phase.TheVariants.{Idle}
 use Rattle.object_store.specs.Ledger.{Account}
@@ -30,6 +30,9 @@ plain_state shape table transaction account = record {
   most = Some (λ rank. empty_objects shape (store_after account.seen) rank);
   strict = false;
   counts_blocks = false;
+  tries = 8;
+  takes = 0;
+  changes = [];
 }
 
 -- the object is empty, and not among what is written
@@ -48,13 +51,17 @@ pub record IsFirstVacant (shape : Shape) (contents writes : Contents) (rank : �
 abbrev pub IsNoneVacant : Shape → Contents → Contents → ℕ → Type 0
 IsNoneVacant shape contents writes rank = (block : ℕ) → reserved_blocks shape ≤ block → block < shape.blocks → is_vacant contents writes (on_rank rank block) ≡ false
 
--- an Empty names its rank
-abbrev pub named_by : PlainRefused → Named
-named_by (Empty rank) = names_rank rank
-named_by NoMemory = names_nothing
+-- an Empty names its rank, and neither passes
+abbrev pub said_by : PlainRefused → Said
+said_by (Empty rank) = record { names = names_rank rank; for_memory = false; passing = false }
+said_by NoMemory = record { names = names_nothing; for_memory = true; passing = false }
+
+pub said_for_memory : (why : PlainRefused) → (said_by why).for_memory ≡ true → why ≡ NoMemory
+said_for_memory (Empty rank) never = absurd (cc never)
+said_for_memory NoMemory is = refl
 
 -- what every plain store tells
-pub record IsPlain {N : Type 0} (state : StoreState N) : Type 0 where
+pub record StandsAlone {N : Type 0} (state : StoreState N) : Type 0 where
   pub every_right : HasEveryRight state
   pub clean : state.clean ≡ true
   pub most : state.most ≡ Some (λ rank. empty_objects state.shape (committed state) rank)
@@ -62,6 +69,10 @@ pub record IsPlain {N : Type 0} (state : StoreState N) : Type 0 where
   pub counts_blocks : state.counts_blocks ≡ false
   -- at most 2 ^ 62 commits
   pub allowance : state.allowance ≡ 2 ^ 62 - length state.seen
+  -- it has no locks, and nothing changes under a transaction
+  pub tries : state.tries ≡ 8
+  pub takes : state.takes ≡ 0
+  pub changes : state.changes ≡ []
 
 -- a store with an empty history, and without a transaction
 pub record IsNew {N : Type 0} (fits : Shape → Entry N → Type 0) (shape : Shape) (state : StoreState N) : Type 0 where
@@ -69,4 +80,4 @@ pub record IsNew {N : Type 0} (fits : Shape → Entry N → Type 0) (shape : Sha
   pub phase : state.phase ≡ Idle
   pub seen : state.seen ≡ []
   pub sound : IsSound fits state
-  pub plain : IsPlain state
+  pub plain : StandsAlone state

@@ -15,6 +15,20 @@ pub data Named : Type 0 where
   names_object : Place → Named
   names_rank : ℕ → Named
 
+-- what a refusal says of itself
+pub record Said : Type 0 where
+  pub names : Named
+  -- no memory was found
+  pub for_memory : Bool
+  -- the transaction only read, and another try of it may go well
+  pub passing : Bool
+
+-- the version of an object was another one than before
+pub record Change : Type 0 where
+  pub object : Place
+  pub before : ℕ
+  pub after : ℕ
+
 -- what a store stands on, which never changes: a table of words, and ranks that it stands for
 pub record Base : Type 0 where
   pub table : TableId
@@ -40,6 +54,12 @@ pub record StoreState (N : Type 0) : Type 0 where
   pub strict : Bool
   -- whether the history's entries had the blocks that they needed
   pub counts_blocks : Bool
+  -- how many more tries a transaction that only reads has without a lock
+  pub tries : ℕ
+  -- how many times a lock was tried for
+  pub takes : ℕ
+  -- what changed under transactions that had no lock
+  pub changes : List Change
 
 -- a transaction that was just begun
 abbrev pub begun : Bool → Phase
@@ -64,5 +84,5 @@ module _ {N : Type 0} where
   committed state = store_after state.seen
 
   -- the entry that the transaction makes if it commits now
-  abbrev pub entry_of : StoreState N → N → Entry N
-  entry_of state note = record { rank = least_right state.base.rights; reads = state.reads; writes = state.writes; note = note }
+  abbrev pub next_entry : StoreState N → N → Entry N
+  next_entry state note = record { rank = least_right state.base.rights; reads = state.reads; writes = state.writes; note = note }

@@ -1,6 +1,6 @@
 ghost use Rattle.std.specs.Prelude.{◌≡◌, ℕ, [], ◌∷◌, ◌++◌, length};
 ghost use Rattle.object_words.specs.Contents.{overlay};
-ghost use Rattle.object_store.specs.State.{HasEveryRight, StoreState, committed, entry_of};
+ghost use Rattle.object_store.specs.State.{HasEveryRight, StoreState, committed, next_entry};
 ghost use Rattle.object_store.specs.Sound.{Continues, IsSound, KeepsCommits};
 ghost use Rattle.object_store.specs.Calls.{Commits};
 
@@ -13,7 +13,7 @@ pub fn whole_store_is_a_map<L: Law>()
     ensures others_keep { (old new : StoreState L.Note) → IsSound L.fits old → Continues L.fits old new → HasEveryRight old →
         KeepsCommits old new → new.seen ≡ old.seen }
     ensures commit_adds { (old new : StoreState L.Note) (note : L.Note) (number : ℕ) → IsSound L.fits old → Continues L.fits old new → HasEveryRight old →
-        Commits note old new number → (number ≡ length old.seen) × (new.seen ≡ old.seen ++ entry_of old note ∷ []) }
+        Commits note old new number → (number ≡ length old.seen) × (new.seen ≡ old.seen ++ next_entry old note ∷ []) }
     ensures commit_writes { (old new : StoreState L.Note) (note : L.Note) (number : ℕ) → IsSound L.fits old → Continues L.fits old new → HasEveryRight old →
         Commits note old new number → committed new ≡ overlay (committed old) old.writes }
 {}

@@ -1,7 +1,7 @@
 ghost use Rattle.std.specs.Prelude.{◌≡◌, ◌<◌, ◌^◌, [], length, IfOk, Some};
 ghost use Rattle.object_words.specs.Contents.{Agrees};
-ghost use Rattle.object_words.specs.Entries.{Entry, store_after};
-ghost use Rattle.object_store.specs.Ledger.{IsHistory, opened, with_entry};
+ghost use Rattle.object_words.specs.Entries.{Entry, HasMaps, store_after};
+ghost use Rattle.object_store.specs.Ledger.{IsHistory, opened, account_with};
 
 use crate::rule::{Account, Counts, Look, Place, Placed};
 use crate::transaction::Transaction;
@@ -51,8 +51,8 @@ impl<L: Law> Ledger<L> {
         note: &C,
     ) -> u64
         requires room { length self.old.seat.me.0.seen < 2 ^ 62 }
-        requires said { (entry : Entry L.Note) × (E.entry ≡ Some entry) × (L.fits self.old.seat.me.0.shape entry) × Agrees entry.reads (store_after self.old.seat.me.0.seen) }
-        ensures placed { (entry : Entry L.Note) → E.entry ≡ Some entry → self.new.seat.me.0 ≡ with_entry self.old.seat.me.0 entry }
+        requires said { (entry : Entry L.Note) × (E.entry ≡ Some entry) × (L.fits self.old.seat.me.0.shape entry) × HasMaps entry × Agrees entry.reads (store_after self.old.seat.me.0.seen) }
+        ensures placed { (entry : Entry L.Note) → E.entry ≡ Some entry → self.new.seat.me.0 ≡ account_with self.old.seat.me.0 entry }
         ensures table { self.new.seat.table_id ≡ self.old.seat.table_id }
         ensures number { result ≡ length self.old.seat.me.0.seen }
         ensures history { IsHistory L.fits self.new.seat.me.0 }

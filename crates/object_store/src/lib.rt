@@ -1,7 +1,7 @@
 //! Transactions on objects: what every store promises, and a store that is a map.
 #![tactic(auto)]
 
-mod giving_up;
+mod calls;
 mod laws;
 mod ledger;
 mod objects;
@@ -15,7 +15,7 @@ mod tests;
 mod transaction;
 mod vacant;
 
-pub use giving_up::give_up;
+pub use calls::give_up::give_up;
 pub use laws::whole_store_is_a_map;
 pub use objects::Objects;
 pub use phase::Phase;

@@ -1,9 +1,9 @@
 ghost use Rattle.std.specs.Prelude.{◌≡◌, ◌≢◌, [], IfOk, OnOk, true, is_some, if◌then◌else◌};
 ghost use Rattle.std.specs.Option.{unwrap_or};
 ghost use Rattle.rma_layout.specs.Placement.{Place};
-ghost use Rattle.object_words.specs.Contents.{Agrees, IsInOrder, IsSameContents, content_of, with_words, words_at};
+ghost use Rattle.object_words.specs.Contents.{Agrees, IsByRisingObject, IsSameContents, content_of, with_words, words_at};
 ghost use Rattle.object_words.specs.Entries.{store_after};
-ghost use Rattle.object_store.specs.Plain.{IsNew, IsPlain};
+ghost use Rattle.object_store.specs.Plain.{IsNew, StandsAlone};
 ghost use Rattle.object_store.specs.declared.phase.Phase.TheVariants.{Idle, Writing};
 
 mod calls;
@@ -29,8 +29,8 @@ pub struct PlainStore<L: Law> {
     ghost shape: { ledger.seat.me.0.shape ≡ geometry },
     ghost same: { IsSameContents committed (store_after ledger.seat.me.0.seen) },
     ghost agrees: { Agrees txn.reads (store_after ledger.seat.me.0.seen) },
-    ghost reads_in_order: { IsInOrder txn.reads },
-    ghost writes_in_order: { IsInOrder txn.writes },
+    ghost reads_in_order: { IsByRisingObject txn.reads },
+    ghost writes_in_order: { IsByRisingObject txn.writes },
     ghost idle: { txn.phase ≡ Idle → (txn.reads ≡ []) × (txn.writes ≡ []) },
     ghost held: { (object : Place) → is_some (words_at txn.writes object) ≡ true → is_some (words_at committed object) ≡ true },
 }
@@ -51,9 +51,9 @@ impl<L: Law> PlainStore<L> {
     }
 
     /// What every plain store tells: it stands for all ranks and keeps no spares, a transaction may make as many
-    /// objects of a rank as are empty, and no commit is refused.
-    pub fn is_plain(&self)
-        ensures { IsPlain (⟦<PlainStore<L> as Store<L>>⟧.state self.now) }
+    /// objects of a rank as are empty, blocks aren't counted, and nothing passes.
+    pub fn stands_alone(&self)
+        ensures { StandsAlone (⟦<PlainStore<L> as Store<L>>⟧.state self.now) }
     {}
 
     /// Reads an object.

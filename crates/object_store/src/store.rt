@@ -1,9 +1,9 @@
-ghost use Rattle.std.specs.Prelude.{◌≡◌, ◌≢◌, ℕ, ◌<◌, ◌≤◌, length, IfOk, IfErr};
+ghost use Rattle.std.specs.Prelude.{◌≡◌, ◌≢◌, ℕ, ◌<◌, ◌≤◌, false, true, length, IfOk, IfErr};
 ghost use Rattle.gdi_kinds.specs.declared.no_memory.NoMemory.{NoMemory};
 ghost use Rattle.rma_layout.specs.Placement.{IsBlock};
 ghost use Rattle.object_store.specs.declared.phase.Phase.TheVariants.{Idle, Reading, Writing};
-ghost use Rattle.object_store.specs.State.{Named, StoreState, entry_of, names_nothing};
-ghost use Rattle.object_store.specs.Sound.{Continues, StaysExplained};
+ghost use Rattle.object_store.specs.State.{Said, StoreState, names_nothing, next_entry};
+ghost use Rattle.object_store.specs.Sound.{Continues, IsSound, StaysExplained};
 ghost use Rattle.object_store.specs.Calls.{Aborts, Begins, Commits, Finishes, MakesObject, MayWrite, ReadsObject, WritesObject};
 ghost use Rattle.object_store.specs.Refusals.{RefusesAccess, RefusesBegin, RefusesCommit, RefusesFresh};
 
@@ -24,22 +24,32 @@ pub trait Store<L: Law> {
     /// Whether a refusal is explained by what came between a store and the store later.
     ghost explains: { Self → Self → Self.Refused → Type 0 };
 
-    /// The object or the rank that a refusal names.
-    ghost names: { Self.Refused → Named };
-
-    /// Whether a refusal says that no memory was found.
-    ghost for_memory: { Self.Refused → Type 0 };
+    /// What a refusal names, whether it is for memory, and whether it passes.
+    ghost says: { Self.Refused → Said };
 
     /// The geometry of the objects.
     fn geometry(&self) -> Geometry
         ensures { result ≡ (state self.now).shape };
 
-    /// Begins a transaction, as writing or not.
+    /// Does nothing to the store. It tells what holds at every moment, so that whoever was handed a store knows it before
+    /// the first call.
+    fn stays_sound(&mut self)
+        ensures same { state self.new ≡ state self.old }
+        ensures sound { IsSound L.fits (state self.new) }
+        ensures explained_still { StaysExplained explains self.old self.new };
+
+    /// Whether a refusal passes, so that the transaction may be tried again.
+    fn again(&mut self, refused: &Self::Refused) -> bool
+        ensures passing { result ≡ (says refused.now).passing }
+        ensures same { self.new ≡ self.old };
+
+    /// Begins a transaction, as writing or not. It takes no memory.
     fn begin(&mut self, writing: bool) -> Result<(), Self::Refused>
         requires { (state self.old).phase ≡ Idle }
         ensures keeps { Continues L.fits (state self.old) (state self.new) }
         ensures done { IfOk result (λ _. Begins writing (state self.old) (state self.new)) }
-        ensures refused { IfErr result (λ why. RefusesBegin (state self.old) (state self.new) (names why) (for_memory why)) }
+        ensures refused { IfErr result (λ why. RefusesBegin writing (state self.old) (state self.new) (says why)) }
+        ensures lock_free { writing ≡ false → 0 < (state self.old).tries → (state self.new).takes ≡ (state self.old).takes }
         ensures explained { IfErr result (λ why. explains self.old self.new why) }
         ensures explained_still { StaysExplained explains self.old self.new };
 
@@ -49,7 +59,7 @@ pub trait Store<L: Law> {
         requires object { IsBlock (state self.old).shape at }
         ensures keeps { Continues L.fits (state self.old) (state self.new) }
         ensures done { IfOk result (λ words. ReadsObject at (state self.old) (state self.new) words) }
-        ensures refused { IfErr result (λ why. RefusesAccess at (state self.old) (state self.new) (names why) (for_memory why)) }
+        ensures refused { IfErr result (λ why. RefusesAccess at (state self.old) (state self.new) (says why)) }
         ensures explained { IfErr result (λ why. explains self.old self.new why) }
         ensures explained_still { StaysExplained explains self.old self.new };
 
@@ -62,28 +72,28 @@ pub trait Store<L: Law> {
         requires may { MayWrite (state self.old) at }
         ensures keeps { Continues L.fits (state self.old) (state self.new) }
         ensures done { IfOk result (λ _. WritesObject at words (state self.old) (state self.new)) }
-        ensures refused { IfErr result (λ why. RefusesAccess at (state self.old) (state self.new) (names why) (for_memory why)) }
+        ensures refused { IfErr result (λ why. RefusesAccess at (state self.old) (state self.new) (says why)) }
         ensures explained { IfErr result (λ why. explains self.old self.new why) }
         ensures explained_still { StaysExplained explains self.old self.new };
 
-    /// A new object of a rank. It is empty, and nobody else can reach it.
+    /// A new object of a rank: it has no words in the history so far, and this transaction hasn't made it before.
     fn fresh(&mut self, home: u16) -> Result<DPtr, Self::Refused>
         requires begun { (state self.old).phase ≡ Writing }
         requires rank { home < (state self.old).shape.ranks }
         ensures keeps { Continues L.fits (state self.old) (state self.new) }
         ensures done { IfOk result (λ made. MakesObject home (state self.old) (state self.new) made) }
-        ensures refused { IfErr result (λ why. RefusesFresh home (state self.old) (state self.new) (names why) (for_memory why)) }
+        ensures refused { IfErr result (λ why. RefusesFresh home (state self.old) (state self.new) (says why)) }
         ensures explained { IfErr result (λ why. explains self.old self.new why) }
         ensures explained_still { StaysExplained explains self.old self.new };
 
     /// Places what the transaction read and wrote in the history, as the entry of the number that it answers.
     fn commit<C: Carries<L>>(&mut self, note: &C) -> Result<u64, Self::Refused>
         requires begun { (state self.old).phase ≡ Writing }
-        requires fits { L.fits (state self.old).shape (entry_of (state self.old) (C.note note.now)) }
+        requires fits { L.fits (state self.old).shape (next_entry (state self.old) (C.note note.now)) }
         requires allowed { 0 < (state self.old).allowance }
         ensures keeps { Continues L.fits (state self.old) (state self.new) }
         ensures done { IfOk result (λ number. Commits (C.note note.now) (state self.old) (state self.new) number) }
-        ensures refused { IfErr result (λ why. RefusesCommit (state self.old) (state self.new) (names why) (for_memory why)) }
+        ensures refused { IfErr result (λ why. RefusesCommit (state self.old) (state self.new) (says why)) }
         ensures explained { IfErr result (λ why. explains self.old self.new why) }
         ensures explained_still { StaysExplained explains self.old self.new };
 
@@ -101,9 +111,16 @@ pub trait Store<L: Law> {
         ensures done { Aborts (state self.old) (state self.new) }
         ensures explained_still { StaysExplained explains self.old self.new };
 
-    ghost memory: { (none : NoMemory) (why : Self.Refused) → Self.Refused.from_gives none why → for_memory why };
+    /// A refusal is for memory exactly where it is what NoMemory turns into, and there is one such refusal.
+    ghost memory: { (none : NoMemory) (why : Self.Refused) → Self.Refused.from_gives none why → (says why).for_memory ≡ true };
 
-    ghost memory_names_nothing: { (why : Self.Refused) → for_memory why → names why ≡ names_nothing };
+    ghost memory_alone: { (none : NoMemory) (why : Self.Refused) → (says why).for_memory ≡ true → Self.Refused.from_gives none why };
 
-    ghost memory_is_explained: { (first last : Self) (why : Self.Refused) → for_memory why → explains first last why };
+    ghost memory_is_one: { (one other : Self.Refused) → (says one).for_memory ≡ true → (says other).for_memory ≡ true → one ≡ other };
+
+    ghost memory_names_nothing: { (why : Self.Refused) → (says why).for_memory ≡ true → (says why).names ≡ names_nothing };
+
+    ghost memory_lasts: { (why : Self.Refused) → (says why).for_memory ≡ true → (says why).passing ≡ false };
+
+    ghost memory_is_explained: { (first last : Self) (why : Self.Refused) → (says why).for_memory ≡ true → explains first last why };
 }

@@ -3,7 +3,7 @@ use Rattle.std.proofs.Common.{◌≡◌, ℕ, Bool, true, false, cond, List, [],
 use Rattle.std.specs.Option.{unwrap_or}
 use Rattle.std.specs.Ordering.{eq_by_cmp}
 use Rattle.rma_layout.specs.Placement.{Place}
-use Rattle.object_words.specs.Contents.{Contents, place_cmp, words_at, content_of, with_words, overlay, IsInOrder, IsSameContents}
+use Rattle.object_words.specs.Contents.{Contents, place_cmp, words_at, content_of, with_words, overlay, IsByRisingObject, IsSameContents}
 use Rattle.object_words.proofs.Places.{words_at-with_words, places_equal, once, in_order_behind}
 
 pub content-with_words : (contents : Contents) (object : Place) (words : List ℕ) (other : Place)
@@ -21,7 +21,7 @@ shadowed : (b : Bool) (over : Option (List ℕ)) (words under : List ℕ) → (b
 shadowed true over words under none = ap (λ o. put_over o words) (none refl)
 shadowed false over words under none = refl
 
-pub content-overlay : (contents writes : Contents) (object : Place) → IsInOrder writes
+pub content-overlay : (contents writes : Contents) (object : Place) → IsByRisingObject writes
     → content_of (overlay contents writes) object ≡ put_over (words_at writes object) (content_of contents object)
 content-overlay contents [] object h = refl
 content-overlay contents (one ∷ more) object h =
@@ -31,7 +31,7 @@ content-overlay contents (one ∷ more) object h =
     (λ tie. ap (words_at more) (places_equal object one.0 tie) ∙ once one.0 one.1 more h))
 
 -- contents that are the same stay so
-pub same-overlay : (one other writes : Contents) → IsInOrder writes → IsSameContents one other → IsSameContents (overlay one writes) (overlay other writes)
+pub same-overlay : (one other writes : Contents) → IsByRisingObject writes → IsSameContents one other → IsSameContents (overlay one writes) (overlay other writes)
 same-overlay one other writes h same object =
     content-overlay one writes object h
     ∙ (ap (put_over (words_at writes object)) (same object)

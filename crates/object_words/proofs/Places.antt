@@ -8,7 +8,7 @@ use Rattle.std.specs.FinMap.{nat_cmp-IsAntisymmetric}
 use Rattle.std.specs.FinMap.Entries.{find-put, is_sorted-put, below_all}
 use lib.Dec.{T}
 use Rattle.rma_layout.specs.Placement.{Place}
-use Rattle.object_words.specs.Contents.{Contents, place_cmp, words_at, with_words, IsInOrder}
+use Rattle.object_words.specs.Contents.{Contents, place_cmp, words_at, with_words, IsByRisingObject}
 
 pub place_cmp_total : IsTotalOrder place_cmp
 place_cmp_total = then_total (on_total (λ (p : Place). p.rank) nat_cmp_total) (on_total (λ (p : Place). p.block) nat_cmp_total)
@@ -75,12 +75,12 @@ not_below object (one ∷ more) h =
     ∙ not_below object more (second (is_lt (place_cmp object one.0)) _ h)
 
 -- of contents in order, no object stands again behind the first one
-pub once : (object : Place) (words : List ℕ) (more : Contents) → IsInOrder ((object, words) ∷ more) → words_at more object ≡ None
+pub once : (object : Place) (words : List ℕ) (more : Contents) → IsByRisingObject ((object, words) ∷ more) → words_at more object ≡ None
 once object words more h = not_below object more (first (below_all place_cmp object more) _ (to_T _ h))
 
-pub in_order_behind : (one : Place × List ℕ) (more : Contents) → IsInOrder (one ∷ more) → IsInOrder more
+pub in_order_behind : (one : Place × List ℕ) (more : Contents) → IsByRisingObject (one ∷ more) → IsByRisingObject more
 in_order_behind one more h = of_T _ (second (below_all place_cmp one.0 more) _ (to_T _ h))
 
-pub in_order-with_words : (contents : Contents) (object : Place) (words : List ℕ) → IsInOrder contents → IsInOrder (with_words contents object words)
+pub in_order-with_words : (contents : Contents) (object : Place) (words : List ℕ) → IsByRisingObject contents → IsByRisingObject (with_words contents object words)
 in_order-with_words contents object words h =
     of_T _ (is_sorted-put place_cmp place_cmp_total object words contents (to_T _ h))

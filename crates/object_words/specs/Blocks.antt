@@ -9,8 +9,8 @@ abbrev pub blocks_for : ℕ → ℕ → ℕ
 blocks_for words per_block = max 1 ((words + (per_block - 1)) / per_block)
 
 -- the blocks of an object with these words. The first word of each block is the link
-abbrev pub blocks_of : Shape → List ℕ → ℕ
-blocks_of shape words = blocks_for (length words) (shape.words - 1)
+abbrev pub content_blocks : Shape → List ℕ → ℕ
+content_blocks shape words = blocks_for (length words) (shape.words - 1)
 
 abbrev pub is_reserved : Shape → ℕ → Bool
 is_reserved shape block = nat_lt block (reserved_blocks shape)
@@ -27,14 +27,10 @@ abbrev pub one_if : Bool → ℕ
 one_if test = if test then 1 else 0
 
 -- the blocks of the reserved and the non-empty objects of a rank
-abbrev pub used_blocks : Shape → Contents → ℕ → ℕ
-used_blocks shape contents rank = total_below shape.blocks (λ block.
+abbrev pub contents_use : Shape → Contents → ℕ → ℕ
+contents_use shape contents rank = total_below shape.blocks (λ block.
     let words = content_of contents (on_rank rank block) in
-    if not (is_reserved shape block) && is_empty words then 0 else blocks_of shape words)
-
--- the blocks of a rank less those
-abbrev pub free_blocks : Shape → Contents → ℕ → ℕ
-free_blocks shape contents rank = shape.blocks - used_blocks shape contents rank
+    if not (is_reserved shape block) && is_empty words then 0 else content_blocks shape words)
 
 -- the unreserved objects of a rank that are empty
 abbrev pub empty_objects : Shape → Contents → ℕ → ℕ
@@ -49,10 +45,10 @@ made_objects shape contents writes rank = total_below shape.blocks (λ block.
 -- by how many blocks an object grows beyond the first block of a new one. One that is emptied, or stays empty, does not
 abbrev pub growth : Shape → ℕ → List ℕ → List ℕ → ℕ
 growth shape block before after =
-    if is_reserved shape block then blocks_of shape after - blocks_of shape before
+    if is_reserved shape block then content_blocks shape after - content_blocks shape before
     else (if is_empty after then 0
-    else (if is_empty before then blocks_of shape after - 1
-    else blocks_of shape after - blocks_of shape before))
+    else (if is_empty before then content_blocks shape after - 1
+    else content_blocks shape after - content_blocks shape before))
 
 -- the growth of the objects of a rank that are written
 abbrev pub grown_blocks : Shape → Contents → Contents → ℕ → ℕ
@@ -61,5 +57,5 @@ grown_blocks shape contents writes rank = total_below shape.blocks (λ block.
     if is_some (words_at writes object) then growth shape block (content_of contents object) (content_of writes object) else 0)
 
 -- what writes need on a rank: a block for each object that they make, and the growth
-abbrev pub needed_blocks : Shape → Contents → Contents → ℕ → ℕ
-needed_blocks shape contents writes rank = made_objects shape contents writes rank + grown_blocks shape contents writes rank
+abbrev pub contents_need : Shape → Contents → Contents → ℕ → ℕ
+contents_need shape contents writes rank = made_objects shape contents writes rank + grown_blocks shape contents writes rank

@@ -43,5 +43,5 @@ abbrev pub IsSameContents : Contents → Contents → Type 0
 IsSameContents one other = (object : Place) → content_of one object ≡ content_of other object
 
 -- the objects rise, so that each stands once
-abbrev pub IsInOrder : Contents → Type 0
-IsInOrder contents = is_sorted place_cmp contents ≡ true
+abbrev pub IsByRisingObject : Contents → Type 0
+IsByRisingObject contents = is_sorted place_cmp contents ≡ true

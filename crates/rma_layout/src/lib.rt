@@ -4,6 +4,7 @@
 mod dptr;
 mod geometry;
 mod laws;
+mod limits;
 #[cfg(test)]
 mod tests;
 mod word;
@@ -13,4 +14,5 @@ pub use geometry::{BadGeometry, Geometry};
 pub use laws::{
     in_range_or_refused, reserved_objects_differ, words_are_numbered, writes_change_one_word,
 };
+pub use limits::MOST_WORDS;
 pub use word::Word;

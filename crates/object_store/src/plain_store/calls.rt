@@ -1,4 +1,4 @@
-ghost use Rattle.std.specs.Prelude.{◌≡◌, ◌<◌, ℕ, IfOk, IfErr};
+ghost use Rattle.std.specs.Prelude.{◌≡◌, ◌<◌, ℕ, false, IfOk, IfErr};
 ghost use Rattle.object_store.specs.declared.phase.Phase.TheVariants.{Writing};
 ghost use Rattle.object_store.specs.declared.plain_refused.PlainRefused.TheVariants.{Empty};
 ghost use Rattle.object_store.specs.State.{committed};
@@ -21,27 +21,42 @@ impl<L: Law> Store<L> for PlainStore<L> {
     type Refused = PlainRefused;
 
     ghost use Rattle.std.specs.Prelude.{◌≡◌};
-    ghost use Rattle.object_store.specs.declared.plain_refused.PlainRefused.TheVariants.{NoMemory};
-    ghost use Rattle.object_store.specs.Plain.{named_by, plain_state};
+    ghost use Rattle.std.proofs.Common.{◌∙◌, ap, sym};
+    ghost use Rattle.object_store.specs.Plain.{plain_state, said_by, said_for_memory};
 
     ghost state = { λ store. plain_state store.geometry store.ledger.seat.table_id store.txn store.ledger.seat.me.0 };
 
     ghost explains = { λ _ _ _. Unit {0} };
 
-    ghost names = { named_by };
+    ghost says = { said_by };
 
-    ghost for_memory = { λ why. why ≡ NoMemory };
+    ghost memory = { λ _ _ is. ap (λ why. (said_by why).for_memory) is };
 
-    ghost use Rattle.std.proofs.Common.{ap};
+    ghost memory_alone = { λ _ why is. said_for_memory why is };
 
-    ghost memory = { λ _ _ is. is };
+    ghost memory_is_one = { λ one other first second. said_for_memory one first ∙ sym (said_for_memory other second) };
 
-    ghost memory_names_nothing = { λ _ is. ap named_by is };
+    ghost memory_names_nothing = { λ why is. ap (λ one. (said_by one).names) (said_for_memory why is) };
+
+    ghost memory_lasts = { λ why is. ap (λ one. (said_by one).passing) (said_for_memory why is) };
 
     ghost memory_is_explained = { λ _ _ _ _. tt };
 
     fn geometry(&self) -> Geometry {
         self.geometry
+    }
+
+    fn stays_sound(&mut self) {
+        self.ledger.look();
+    }
+
+    /// No refusal of a plain store passes.
+    fn again(&mut self, refused: &PlainRefused) -> bool
+        ensures passing { result ≡ (⟦<PlainStore<L> as Store<L>>⟧.says refused.now).passing }
+        ensures same { self.new ≡ self.old }
+        ensures never { result ≡ false }
+    {
+        false
     }
 
     fn begin(&mut self, writing: bool) -> Result<(), PlainRefused> {
@@ -93,7 +108,7 @@ impl<L: Law> Store<L> for PlainStore<L> {
         requires rank { home < (⟦<PlainStore<L> as Store<L>>⟧.state self.old).shape.ranks }
         ensures keeps { Continues L.fits (⟦<PlainStore<L> as Store<L>>⟧.state self.old) (⟦<PlainStore<L> as Store<L>>⟧.state self.new) }
         ensures done { IfOk result (λ made. MakesObject home (⟦<PlainStore<L> as Store<L>>⟧.state self.old) (⟦<PlainStore<L> as Store<L>>⟧.state self.new) made) }
-        ensures refused { IfErr result (λ why. RefusesFresh home (⟦<PlainStore<L> as Store<L>>⟧.state self.old) (⟦<PlainStore<L> as Store<L>>⟧.state self.new) (⟦<PlainStore<L> as Store<L>>⟧.names why) (⟦<PlainStore<L> as Store<L>>⟧.for_memory why)) }
+        ensures refused { IfErr result (λ why. RefusesFresh home (⟦<PlainStore<L> as Store<L>>⟧.state self.old) (⟦<PlainStore<L> as Store<L>>⟧.state self.new) (⟦<PlainStore<L> as Store<L>>⟧.says why)) }
         ensures explained { IfErr result (λ why. ⟦<PlainStore<L> as Store<L>>⟧.explains self.old self.new why) }
         ensures explained_still { StaysExplained ⟦<PlainStore<L> as Store<L>>⟧.explains self.old self.new }
         ensures least { let old = ⟦<PlainStore<L> as Store<L>>⟧.state self.old in IfOk result (λ made. IsFirstVacant old.shape (committed old) old.writes home made) }

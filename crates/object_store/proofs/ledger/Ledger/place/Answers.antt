@@ -8,5 +8,5 @@ fetch_add-requires g c =
     let said = c.requires.said in (
       ledger.same_table,
       rw ledger.one_word (lit< tt),
-      rw ledger.first_seat (placing g.L.Law.fits ledger.table.shared.table_id.slots g.E.Placed.entry said.0 ledger.seat.me said.1 said.2 said.3 c.requires.room),
+      rw ledger.first_seat (placing g.L.Law.fits ledger.table.shared.table_id.slots g.E.Placed.entry said.0 ledger.seat.me said.1 said.2 said.3 said.4 c.requires.room),
     )

@@ -1,0 +1,2 @@
+pub mod look;
+pub mod put;

@@ -1,0 +1,37 @@
+ghost use Rattle.std.specs.Prelude.{◌≡◌, ◌≢◌, ℕ, List, IfOk, MatchOption};
+ghost use Rattle.holder_codec.specs.Bucket.{IsBucketHolder, bucket_words};
+
+use gdi_kinds::NoMemory;
+use holder_codec::BucketHolder;
+use object_words::Words;
+use std::alloc::Global;
+
+/// What an object holds in one spelling.
+pub trait Holder: Sized + Drop {
+    ghost IsHolder: { Self → Type 0 };
+
+    ghost words_of: { Self → List ℕ };
+
+    fn write_words(&self, alloc: Global) -> Result<Words, NoMemory>
+        requires { IsHolder self.now }
+        ensures { IfOk result (λ words. words ≡ words_of self.now) };
+
+    fn read_words(alloc: Global, words: &Words) -> Result<Option<Self>, NoMemory>
+        ensures { IfOk result (λ found. MatchOption found
+            ((held : Self) → IsHolder held → words.now ≢ words_of held)
+            (λ held. IsHolder held × (words.now ≡ words_of held))) };
+}
+
+impl Holder for BucketHolder {
+    ghost IsHolder = { IsBucketHolder };
+
+    ghost words_of = { bucket_words };
+
+    fn write_words(&self, alloc: Global) -> Result<Words, NoMemory> {
+        self.write(alloc)
+    }
+
+    fn read_words(alloc: Global, words: &Words) -> Result<Option<BucketHolder>, NoMemory> {
+        BucketHolder::read(alloc, words)
+    }
+}

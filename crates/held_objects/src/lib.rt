@@ -1,0 +1,9 @@
+//! What an object holds in one spelling, as a transaction finds it and changes it.
+#![tactic(auto)]
+
+mod calls;
+mod holder;
+
+pub use calls::look::look;
+pub use calls::put::put;
+pub use holder::Holder;

@@ -1,0 +1,4 @@
+pub mod add;
+pub mod find;
+pub mod remove;
+pub mod room;

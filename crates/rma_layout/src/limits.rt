@@ -1,0 +1,2 @@
+/// An object has at most so many words.
+pub const MOST_WORDS: u64 = 1_048_576;
