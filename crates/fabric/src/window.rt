@@ -1,7 +1,7 @@
 ghost use Rattle.std.specs.Prelude.{◌≡◌, IfOk};
 ghost use Rattle.rma_layout.specs.Words.{IsWord, number_of};
-ghost use Rattle.fabric.specs.RightsHold.{IsAlone};
-ghost use Rattle.fabric.specs.View.{first_view};
+ghost use Rattle.window_rule.specs.RightsHold.{IsAlone};
+ghost use Rattle.window_rule.specs.View.{first_view};
 
 use crate::opening::first_words;
 use crate::rank::Rank;

@@ -1,5 +1,5 @@
 use Rattle.std.proofs.Common.{ap, ◌∙◌}
-use Rattle.fabric.proofs.Openings.{opening_is_lawful, first_is_live, first_is_alone}
+use Rattle.window_rule.proofs.Openings.{opening_is_lawful, first_is_live, first_is_alone}
 use Rattle.fabric.proofs.window.Window.new.Goals as goal
 
 pub of_words-requires : goal.of_words-requires

@@ -1,0 +1,5 @@
+use Rattle.window_rule.proofs.NoteSteps.{head_permitted}
+use Rattle.fabric.proofs.rank.Rank.head.Goals as goal
+
+pub load-requires-clause-permits : goal.load-requires-clause-permits
+load-requires-clause-permits g c = head_permitted g.L.Law.fits _ _ _ c.requires.rank

@@ -1,0 +1,5 @@
+use Rattle.window_rule.specs.Pool.{rank_of, Heads}
+use Rattle.fabric.proofs.rank.Rank.head.Given as goal
+
+abbrev pub ghosts-load : goal.ghosts-load
+ghosts-load g a = record { told = Heads a.window.now.shape (rank_of a.word) }

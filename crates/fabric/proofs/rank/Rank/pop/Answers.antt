@@ -1,0 +1,7 @@
+use Rattle.std.proofs.Common.{refl}
+use Rattle.window_rule.proofs.PopSteps.{pop_permitted}
+use Rattle.fabric.proofs.rank.Rank.pop.Goals as goal
+
+pub compare_exchange-found-requires-clause-permits :
+    goal.compare_exchange-found-requires-clause-permits
+compare_exchange-found-requires-clause-permits g c = pop_permitted g.L.Law.fits _ c.args.r c.args.head c.args.next _ _ c.requires.may refl

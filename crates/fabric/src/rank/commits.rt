@@ -1,0 +1,34 @@
+//! The step on the commit word.
+ghost use Rattle.std.specs.Prelude.{◌≡◌};
+ghost use Rattle.object_words.specs.Entries.{Entry};
+ghost use Rattle.window_rule.specs.Lengths.{Places};
+ghost use Rattle.window_rule.specs.Truths.{IsTrueView};
+ghost use Rattle.window_rule.specs.Commit.{CommitsNote, MayCommit};
+
+use crate::rank::Rank;
+use crate::window::Window;
+use object_words::{Carries, Law};
+use rma_layout::Word;
+use std::marker::Brand;
+
+impl<L: Law> Rank<L> {
+    /// Commits what it has attached as the next entry of the history, and answers the entry's number.
+    pub fn commit<C: Carries<L>>(&mut self, window: &Window<L>, note: &C) -> u64
+        requires window { self.old.window ≡ window.now.id }
+        requires may { (entry : Entry L.Note) × (entry.note ≡ C.note note.now) × MayCommit L.fits window.now.shape self.old.view entry }
+        ensures window { self.new.window ≡ self.old.window }
+        ensures view { CommitsNote L.fits window.now.shape (C.note note.now) self.old.view result self.new.view }
+    {
+        self.fetch_add_about::<Brand, C>(window, Word::Commit, 1, note)
+    }
+
+    /// The length of the history now. All that it knows is so after these entries.
+    pub fn place(&mut self, window: &Window<L>) -> u64
+        requires window { self.old.window ≡ window.now.id }
+        ensures window { self.new.window ≡ self.old.window }
+        ensures view { Places self.old.view result self.new.view }
+        ensures truths { IsTrueView L.fits window.now.shape self.new.view }
+    {
+        self.load::<Brand>(window, Word::Commit)
+    }
+}
