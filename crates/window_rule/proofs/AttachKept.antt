@@ -32,6 +32,7 @@ pub IsKeptIn-built : (shape : Shape) (range : 2 ≤ shape.words) (sizes : Place 
 IsKeptIn-built shape range sizes words cells object chain content h tells size = record {
   size = size;
   blocks = h.enough;
+  few_words = h.few_words;
   linked = linked_from words cells chain tells h.spelled.linked;
   payload = λ k below.
       let per = shape.words - 1 in

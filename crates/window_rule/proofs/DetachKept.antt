@@ -407,6 +407,7 @@ detach_permitted {N} fits shape before object block may = record {
           view = refl;
           same = λ was is. known_same fits shape words views ground h id before now.there now.live object block may was is;
           blocks = stood.blocks;
+          few_words = stood.few_words;
           lies = h.lie object;
           spelled = spelled_from shape (omega (arith, now.in_range.words)) (sizes_in words) (data_in words) object chain kept before.cells stood;
           apart = λ b. omega (

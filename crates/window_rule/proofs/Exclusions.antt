@@ -22,7 +22,7 @@ pub mark_excludes : (shape : Shape) (word_of : Place → ℕ) (all : List Locks)
     → LocksHold shape word_of all → IsBlock shape object → get_elem? all id ≡ some mine → get_elem? all j ≡ some theirs → j ≢ id
     → hold_of mine object ≡ Some Marked → ¬ Lasts (hold_of theirs object)
 mark_excludes shape word_of all id j mine theirs object h block here there ne marked =
-    let counted = h object block in
+    let counted = h.counted object block in
     let mark : marks_of (hold_of mine object) ≡ 1 = ap marks_of marked in
     let marks = two_in_sum (λ locks. marks_of (hold_of locks object)) all id j mine theirs ne here there in
     let lasting = one_in_sum (λ locks. lasting_of (hold_of locks object)) all j theirs there in

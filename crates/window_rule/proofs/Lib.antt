@@ -21,7 +21,11 @@ pub mod OwnEntries
 pub mod LengthRead
 pub mod CommitSteps
 pub mod LawfulKept
+pub mod Trails
 pub mod LockSteps
+pub mod GateKept
+pub mod GateSteps
+pub mod StampSteps
 pub mod Handovers
 pub mod Newcomers
 pub mod SplitSteps

@@ -4,7 +4,7 @@ use Rattle.std.proofs.lemmas.Bool.Decides.{nat_tests}
 use Rattle.std.proofs.lemmas.Bool.{cases_eq}
 use Rattle.rma_layout.specs.Placement.{Place, same_place}
 use Rattle.lock_words.specs.declared.want.Want.{Want}
-use Rattle.window_rule.specs.View.{View, Hold, Shared, Marked, Returning, Locks}
+use Rattle.window_rule.specs.View.{View, OfObject, Hold, Shared, Marked, Returning, Locks}
 use Rattle.window_rule.specs.Locks.{hold_of, without_lock, with_lock, shares_of, lasting_of, marks_of}
 use Rattle.window_rule.specs.Steps.{tried, locked, returned, refused}
 
@@ -123,7 +123,7 @@ no_mark_beside (Some Returning) h = refl
 
 -- once a refused share is taken back, the locks are as before
 pub refused_is_unlocked : {N : Type 0} (object : Place) (want : Want) (word : ℕ) (view : View N) → hold_of view.locks object ≡ None
-    → returned object (refused object want word (tried (locked object Returning view))) ≡ refused object want word (tried view)
+    → returned object (refused (OfObject object) want word (tried (locked object Returning view))) ≡ refused (OfObject object) want word (tried view)
 refused_is_unlocked {N} object want word view h =
-    let after : View N = refused object want word (tried view) in
+    let after : View N = refused (OfObject object) want word (tried view) in
     ap (λ (locks : Locks). record after { locks = locks }) (without_lock-with_lock view.locks object Returning h)

@@ -11,7 +11,7 @@ use Rattle.window_rule.specs.Permits.{Moment, Permits, Goes}
 use Rattle.lock_words.specs.Conflicts.{Conflicts}
 use Rattle.lock_words.specs.declared.want.Want.{Want}
 use Rattle.lock_words.specs.declared.want.Want.TheVariants.{Share, Mark, Rise}
-use Rattle.window_rule.specs.View.{View, Known, Hold, Shared, Marked, Returning}
+use Rattle.window_rule.specs.View.{View, Known, OfObject, Hold, Shared, Marked, Returning}
 use Rattle.window_rule.specs.Dirty.{dirt_of}
 use Rattle.window_rule.specs.Known.{known_of, without_known}
 use Rattle.window_rule.specs.ContentsHold.{Lasts}
@@ -38,7 +38,7 @@ module _ {N : Type 0} (fits : Shape → Entry N → Type 0) (shape : Shape) (obj
 
     found_now : Found
     found_now = record {
-      counted = now.lawful.holds.locks object block;
+      counted = now.lawful.holds.locks.counted object block;
       few_shares = omega (arith, shares-le-ranks fits shape words views id object now.lawful, now.in_range.ranks);
       lasting = lasting-le fits shape words views id object;
       alone_shares = λ alone. alone_counts fits shape words views id before object shares_of now.lawful now.there alone refl;
@@ -95,10 +95,10 @@ module _ {N : Type 0} (fits : Shape → Entry N → Type 0) (shape : Shape) (obj
         })
 
     -- a step that was refused leaves the word and the locks
-    refusal_keeps : (want : Want) → IsLawful fits shape (with_word words (Lock object) (words (Lock object))) (set views id (refused object want (words (Lock object)) (tried before)))
+    refusal_keeps : (want : Want) → IsLawful fits shape (with_word words (Lock object) (words (Lock object))) (set views id (refused (OfObject object) want (words (Lock object)) (tried before)))
     refusal_keeps want =
         let counted = found_now.counted in
-        lock_step_keeps fits shape words views id before (refused object want (words (Lock object)) (tried before)) object (words (Lock object)) block now (record {
+        lock_step_keeps fits shape words views id before (refused (OfObject object) want (words (Lock object)) (tried before)) object (words (Lock object)) block now (record {
           beside = refl;
           known = λ other reading is. is;
           lasts = λ reading is was. was;
@@ -116,7 +116,7 @@ module _ {N : Type 0} (fits : Shape → Entry N → Type 0) (shape : Shape) (obj
         → shares_of (hold_of before.locks object) ≡ lasting_of (hold_of before.locks object) → own ≤ 1
         → (Conflicts want (words (Lock object)) ↔ words (Lock object) ≢ own)
         → Goes fits shape (with_word words (Lock object) (either (words (Lock object) == own) (2 ^ 32) (words (Lock object)))) views id before
-        (λ after. Tries shape want before (words (Lock object)) after (tried (locked object Marked before)) (refused object want (words (Lock object)) (tried before)))
+        (λ after. Tries shape want before (words (Lock object)) after (tried (locked object Marked before)) (refused (OfObject object) want (words (Lock object)) (tried before)))
     mark_goes want own own_is no_mark all_last one_share conflicts =
         let facts = found_now in
         let word = words (Lock object) in
@@ -133,8 +133,8 @@ module _ {N : Type 0} (fits : Shape → Entry N → Type 0) (shape : Shape) (obj
             };
           }
           | inr miss ↦ record {
-            after = refused object want word (tried before);
-            lawful = subst (λ (test : Bool). IsLawful fits shape (with_word words (Lock object) (either test (2 ^ 32) word)) (set views id (refused object want word (tried before))))
+            after = refused (OfObject object) want word (tried before);
+            lawful = subst (λ (test : Bool). IsLawful fits shape (with_word words (Lock object) (either test (2 ^ 32) word)) (set views id (refused (OfObject object) want word (tried before))))
                 (sym (ne_eqb word own miss)) (refusal_keeps want);
             same_rights = refl;
             told = record {
@@ -232,7 +232,7 @@ module _ {N : Type 0} (fits : Shape → Entry N → Type 0) (shape : Shape) (obj
         let no_mark : marks_of (hold_of before.locks object) ≡ 0 = ap marks_of none in
         elim (cases_eq ((word / 2 ^ 32) % 2) 1) [
           | inl conflict ↦
-              let after = refused object Share word (tried (locked object Returning before)) in record {
+              let after = refused (OfObject object) Share word (tried (locked object Returning before)) in record {
                 after = after;
                 lawful = holds_with words views id now ((word + 1) % 2 ^ 64) after Returning refl refl refl (λ mark. let one : marks_of (hold_of before.locks object) ≡ 1 = ap marks_of mark in omega arith) (λ lasts. subst Lasts none lasts) (λ s l m es el em. record {
                   word_is = omega (arith, counted.word_is, counted.one_mark, facts.few_shares);

@@ -1,9 +1,9 @@
 -- The part on locks: which steps keep it.
-use Rattle.std.proofs.Common.{◌≡◌, ◌≢◌, ℕ, ◌+◌, cond, List, map, set, sym, ap, ◌∙◌, subst, inl, inr, arith, Option}
+use Rattle.std.proofs.Common.{◌≡◌, ◌≢◌, ℕ, ◌+◌, cond, List, map, set, sym, ap, ◌∙◌, subst, inl, inr, arith, Option, Some}
 use mathlib.Core.Option.{some}
 use lib.ListN.{get_elem?}
 use lib.Seq.{map-set}
-use Rattle.atomic_table.proofs.Lists.{at_map}
+use Rattle.atomic_table.proofs.Lists.{at_map, at_set}
 use Rattle.rma_layout.specs.declared.word.Word.TheVariants.{Lock}
 use Rattle.rma_layout.specs.Shape.{Shape}
 use Rattle.rma_layout.specs.Placement.{Place, IsBlock, same_place}
@@ -51,28 +51,48 @@ counted_elsewhere word after all id old new object there same held h =
     }
 
 -- it is kept by a step on the lock word of an object, that changes one view's lock on this object and counts it
-pub LocksHold-at : {N : Type 0} (shape : Shape) (words : Words) (object : Place) (new : ℕ) (views : List (View N)) (id : ℕ) (before after : View N)
-    → IsBlock shape object → get_elem? views id ≡ some before
-    → ((other : Place) → other ≢ object → hold_of after.locks other ≡ hold_of before.locks other)
-    → Recounts object (map locks_of views) new (hold_of before.locks object) (hold_of after.locks object)
-    → LocksHold shape (locks_in words) (map locks_of views)
-    → LocksHold shape (locks_in (with_word words (Lock object) new)) (map locks_of (set views id after))
-LocksHold-at {N} shape words object new views id before after block there others recount h other is_block =
-    let all = map locks_of views in
-    let old = at_map locks_of views id before there in
-    let Counted : ℕ → Place → Type 0 = λ word p.
-    IsCounted word (in_all shares_of p (set all id after.locks)) (in_all lasting_of p (set all id after.locks)) (in_all marks_of p (set all id after.locks)) in
-    subst (λ locks. IsCounted (locks_in (with_word words (Lock object) new) other) (in_all shares_of other locks) (in_all lasting_of other locks) (in_all marks_of other locks))
-    (sym (map-set locks_of views id after)) (elim (place_cases other object) [
-      | inl same ↦
-          subst (Counted (cond (same_place other object) new (words (Lock other)))) (sym same)
-          (subst (λ b. Counted (cond b new (words (Lock other))) object) (sym (ap (λ p. same_place p object) same ∙ same_place-refl object))
-          (recount _ _ _
-          (in_all-set shares_of object all id before.locks after.locks old)
-          (in_all-set lasting_of object all id before.locks after.locks old)
-          (in_all-set marks_of object all id before.locks after.locks old)))
-      | inr ne ↦
-          counted_elsewhere (words (Lock other)) _ all id before.locks after.locks other old
-          (ap (λ b. cond b new (words (Lock other))) (same_place-false other object ne))
-          (others other ne) (h other is_block)
-    ])
+module _ {N : Type 0} (shape : Shape) (words : Words) (object : Place) (new : ℕ) (views : List (View N)) (id : ℕ) (before after : View N)
+    (block : IsBlock shape object) (there : get_elem? views id ≡ some before)
+    (others : (other : Place) → other ≢ object → hold_of after.locks other ≡ hold_of before.locks other)
+    (recount : Recounts object (map locks_of views) new (hold_of before.locks object) (hold_of after.locks object))
+    (h : LocksHold shape (locks_in words) (map locks_of views)) where
+  abbrev all_after : List Locks
+  all_after = map locks_of (set views id after)
+
+  counted_at : (other : Place) → IsBlock shape other
+      → IsCounted (locks_in (with_word words (Lock object) new) other) (in_all shares_of other all_after) (in_all lasting_of other all_after) (in_all marks_of other all_after)
+  counted_at other is_block =
+      let all = map locks_of views in
+      let old = at_map locks_of views id before there in
+      let Counted : ℕ → Place → Type 0 = λ word p.
+      IsCounted word (in_all shares_of p (set all id after.locks)) (in_all lasting_of p (set all id after.locks)) (in_all marks_of p (set all id after.locks)) in
+      subst (λ locks. IsCounted (locks_in (with_word words (Lock object) new) other) (in_all shares_of other locks) (in_all lasting_of other locks) (in_all marks_of other locks))
+      (sym (map-set locks_of views id after)) (elim (place_cases other object) [
+        | inl same ↦
+            subst (Counted (cond (same_place other object) new (words (Lock other)))) (sym same)
+            (subst (λ b. Counted (cond b new (words (Lock other))) object) (sym (ap (λ p. same_place p object) same ∙ same_place-refl object))
+            (recount _ _ _
+            (in_all-set shares_of object all id before.locks after.locks old)
+            (in_all-set lasting_of object all id before.locks after.locks old)
+            (in_all-set marks_of object all id before.locks after.locks old)))
+        | inr ne ↦
+            counted_elsewhere (words (Lock other)) _ all id before.locks after.locks other old
+            (ap (λ b. cond b new (words (Lock other))) (same_place-false other object ne))
+            (others other ne) (h.counted other is_block)
+      ])
+
+  blocks_after : (j : ℕ) (locks : Locks) (other : Place) (hold : Hold) → get_elem? all_after j ≡ some locks
+      → hold_of locks other ≡ Some hold → IsBlock shape other
+  blocks_after j locks other hold at is =
+      elim (at_set (map locks_of views) id j after.locks locks (sym (ap (λ l. get_elem? l j) (map-set locks_of views id after)) ∙ at)) [
+        | inl here ↦ elim (place_cases other object) [
+          | inl same ↦ subst (IsBlock shape) (sym same) block
+          | inr ne ↦
+              h.of_blocks id before.locks other hold (at_map locks_of views id before there)
+              (sym (others other ne) ∙ (ap (λ l. hold_of l other) here.1 ∙ is))
+        ]
+        | inr else ↦ h.of_blocks j locks other hold else.1 is
+      ]
+
+  pub LocksHold-at : LocksHold shape (locks_in (with_word words (Lock object) new)) all_after
+  LocksHold-at = record { counted = counted_at; of_blocks = blocks_after }

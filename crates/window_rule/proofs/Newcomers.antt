@@ -1,5 +1,5 @@
 -- A spent view more changes nothing.
-use Rattle.std.proofs.Common.{◌≡◌, ℕ, zero, suc, ◌+◌, ◌<◌, Bool, List, [], ◌∷◌, ◌++◌, map, length, length-set, set, get_or, refl, sym, ap, ◌∙◌, subst, inl, inr, arith, Option}
+use Rattle.std.proofs.Common.{None, Some, ◌≡◌, ℕ, zero, suc, ◌+◌, ◌<◌, Bool, List, [], ◌∷◌, ◌++◌, map, length, length-set, set, get_or, refl, sym, ap, ◌∙◌, subst, inl, inr, arith, Option}
 use Rattle.std.specs.List.{AllByRecursion, sum_by}
 use Rattle.std.proofs.lemmas.List.{map-append, set-append_left}
 use Rattle.std.proofs.Math.Seq.{set-append_seam}
@@ -91,10 +91,16 @@ module _ {N : Type 0} (fits : Shape → Entry N → Type 0) (shape : Shape) (wor
       | inl was ↦ h.spent i view was none
       | inr same ↦ sym same
     ];
-    locks = λ object block. let was = h.locks object block in record {
-      word_is = omega (arith, was.word_is, locks_sum shares_of object, locks_sum marks_of object);
-      one_mark = omega (arith, was.one_mark, locks_sum marks_of object);
-      apart = λ one. omega (arith, was.apart (omega (arith, locks_sum marks_of object)), locks_sum lasting_of object);
+    locks = record {
+      counted = λ object block. let was = h.locks.counted object block in record {
+        word_is = omega (arith, was.word_is, locks_sum shares_of object, locks_sum marks_of object);
+        one_mark = omega (arith, was.one_mark, locks_sum marks_of object);
+        apart = λ one. omega (arith, was.apart (omega (arith, locks_sum marks_of object)), locks_sum lasting_of object);
+      };
+      of_blocks = λ id locks object hold there is. elim (at_snoc (map locks_of views) [] locks id (sym (ap (λ l. get_elem? l id) (map-append locks_of views (spent ∷ []))) ∙ there)) [
+        | inl was ↦ h.locks.of_blocks id locks object hold was is
+        | inr same ↦ absurd (let none : None ≡ Some hold = ap (λ l. hold_of l object) same ∙ is in cc none)
+      ];
     };
     gate = record {
       word_is = omega (arith, h.gate.word_is, gate_sum writers_of refl, gate_sum wholes_of refl);

@@ -60,6 +60,7 @@ module _ (cells : Place → ℕ → ℕ) (block : Place) (i new : ℕ) where
     IsKeptIn-put object chain content none h = record {
       size = h.size;
       blocks = h.blocks;
+      few_words = h.few_words;
       linked = AreLinked-put chain none h.linked;
       payload = λ k below.
           let per = shape.words - 1 in
@@ -93,6 +94,7 @@ module _ (shape : Shape) (sizes : Place → ℕ) (cells : Place → ℕ → ℕ)
   IsKept-elsewhere other chain (Some content) ne h = record {
     size = other_size other ne ∙ h.size;
     blocks = h.blocks;
+    few_words = h.few_words;
     linked = h.linked;
     payload = h.payload;
   }

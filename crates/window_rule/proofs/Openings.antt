@@ -22,6 +22,7 @@ use Rattle.window_rule.specs.RightsHold.{Stake, stake_of, right_count, AreRanks,
 use Rattle.window_rule.specs.Lawful.{IsRuled, Holds, Ground, owns_of, dirts_of}
 use Rattle.window_rule.specs.Words.{Words, is_block, words_in, sizes_in, data_in, nexts_in, heads_in}
 use Rattle.window_rule.specs.EachView.{EachView}
+use Rattle.window_rule.specs.Locks.{hold_of}
 use Rattle.window_rule.specs.Dirty.{dirt_of}
 use Rattle.window_rule.specs.HistoryHolds.{AreHeard, past_of, IsChronicle, chronicle_of}
 use Rattle.window_rule.specs.Objects.{IsKeptIn, ObjectsStand, LiesAt, AreThreaded, IsFreeList, number_to, first_of}
@@ -299,12 +300,14 @@ module _ {N : Type 0} (fits : Shape → Entry N → Type 0) (shape : Shape) (wor
   chain_here object block true e =
       subst (λ b. IsKeptIn shape (sizes_in all) (data_in all) object (cond b (object ∷ []) []) []) (sym (is_block-true shape object block)) (record {
         size = is (Length object) block;
+        few_words = omega arith;
         blocks = sym (ap (λ b. cond (not b && is_empty []) 0 (blocks_for 0 (shape.words - 1))) e ∙ one_block (shape.words - 1) (omega (arith, in_range.words)));
         linked = (is (Data object 0) (block, omega (arith, in_range.words)), tt);
         payload = λ k below. absurd (omega arith);
       })
   chain_here object block false e = record {
     size = is (Length object) block;
+    few_words = omega arith;
     blocks = sym (ap (λ b. cond (not b && is_empty []) 0 (blocks_for 0 (shape.words - 1))) e);
     linked = tt;
     payload = λ k below. absurd (omega arith);
@@ -403,7 +406,10 @@ module _ {N : Type 0} (fits : Shape → Entry N → Type 0) (shape : Shape) (wor
       few_commits = omega (arith, is Commit tt);
     };
     spent = λ id view there none. absurd (some_rank shape.ranks in_range.ranks.0 (ap (λ (v : View N). v.rights) (first_of_one (first_view {N = N} shape) view id there) ∙ none));
-    locks = λ object block. record { word_is = is (Lock object) block; one_mark = omega arith; apart = λ one. omega arith };
+    locks = record {
+      counted = λ object block. record { word_is = is (Lock object) block; one_mark = omega arith; apart = λ one. omega arith };
+      of_blocks = λ id locks object hold there is_hold. absurd (let none : None ≡ Some hold = ap (λ l. hold_of l object) (first_of_one [] locks id there) ∙ is_hold in cc none);
+    };
     gate = record { word_is = is Gate tt; apart = λ some. absurd (omega arith) };
     history = record {
       counted = is Commit tt;

@@ -14,7 +14,7 @@ detached_attaches {N} shape object before after told =
       dirt = dirt_on object told.known;
       is = ap (λ t. cond t (Some (dirt_on object told.known)) (dirt_of before.dirty object)) (same_place-refl object);
       not_attached = refl;
-      built = record { enough = told.blocks; lies = told.lies; spelled = told.spelled };
+      built = record { enough = told.blocks; few_words = told.few_words; lies = told.lies; spelled = told.spelled };
       has = λ b. omega arith;
     } in
     (told.known.chain, told.known.content, refl, subst (MayAttach shape object told.known.chain told.known.content) (sym told.view) may)

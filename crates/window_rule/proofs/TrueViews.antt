@@ -3,6 +3,7 @@ use Rattle.std.proofs.Common.{◌≡◌, ℕ, List, [], ◌∷◌, ◌++◌, set
 use Rattle.std.specs.List.{AllByRecursion}
 use mathlib.Core.Option.{some}
 use lib.ListN.{get_elem?}
+use Rattle.atomic_table.proofs.Lists.{at_map}
 use Rattle.rma_layout.specs.declared.word.Word.{Word}
 use Rattle.rma_layout.specs.Shape.{Shape}
 use Rattle.rma_layout.specs.Placement.{Place}
@@ -10,13 +11,13 @@ use Rattle.object_words.specs.Contents.{Contents, overlay}
 use Rattle.object_words.specs.Entries.{Entry, EachEntry}
 use Rattle.window_rule.specs.View.{View, Known}
 use Rattle.window_rule.specs.Known.{known_of}
-use Rattle.window_rule.specs.Words.{Words, is_block}
+use Rattle.window_rule.specs.Words.{Words, with_word, is_block}
 use Rattle.window_rule.specs.Objects.{LiesAt}
 use Rattle.window_rule.specs.Partition.{OwnOf, Within, places_of, times}
 use Rattle.window_rule.specs.Permits.{Permits}
-use Rattle.window_rule.specs.Truths.{IsTrueView}
-use Rattle.window_rule.specs.Lawful.{Ground, Holds}
-use Rattle.window_rule.proofs.WordFunctions.{is_block-tells}
+use Rattle.window_rule.specs.Truths.{IsTrueView, WasLawful}
+use Rattle.window_rule.specs.Lawful.{Ground, Holds, locks_of}
+use Rattle.window_rule.proofs.WordFunctions.{is_block-tells, with_word-same}
 use Rattle.window_rule.proofs.PartitionKept.{share-tells, share-le, two_shares}
 use Rattle.window_rule.proofs.ViewsKept.{part_before, set_here_at}
 use Rattle.window_rule.proofs.GetSteps.{known_kept}
@@ -45,6 +46,8 @@ module _ {N : Type 0} (fits : Shape → Entry N → Type 0) (shape : Shape) (wor
         own = chronicle.own;
         knows = h.memory id view there;
         full = λ object known is. (known_kept fits shape words views ground h id view there object known is).blocks;
+        few_words = λ object known is. (known_kept fits shape words views ground h id view there object known is).few_words;
+        locked = λ object hold is. h.locks.of_blocks id view.locks object hold (at_map locks_of views id view there) is;
         lies = λ object known is. subst (LiesAt object) (chain_is object known is) (h.lie object);
         inside = λ object known b is here.
             is_block-tells shape b (share-tells (is_block shape b) (ground.owner b) (Within object) (omega (arith, h.blocks.each (Within object) b, ap (times b) (chain_is object known is)))).0;
@@ -74,5 +77,29 @@ truly_permitted fits shape word change before Told may = record {
         lawful = gone.lawful;
         same_rights = gone.same_rights;
         told = (gone.told, true_view fits shape _ (set views id gone.after) gone.lawful.ground gone.lawful.holds id gone.after (set_here_at views id before gone.after now.there));
+      };
+}
+
+-- a load tells besides that the words and all views were lawful
+pub witnessed : {N : Type 0} (fits : Shape → Entry N → Type 0) (shape : Shape) (word : Word) (before : View N) (Told : ℕ → View N → Type 0)
+    → Permits fits shape word (λ found. found) before Told
+    → Permits fits shape word (λ found. found) before (λ found after. Told found after × WasLawful fits shape word found after)
+witnessed fits shape word before Told may = record {
+  goes = λ words views id now small.
+      let gone = may.goes words views id now small in record {
+        after = gone.after;
+        lawful = gone.lawful;
+        same_rights = gone.same_rights;
+        told = (
+          gone.told,
+          record {
+            words = with_word words word (words word);
+            views = set views id gone.after;
+            id = id;
+            lawful = gone.lawful;
+            there = set_here_at views id before gone.after now.there;
+            found_is = sym (with_word-same words word (words word));
+          },
+        );
       };
 }

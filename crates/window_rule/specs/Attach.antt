@@ -1,5 +1,5 @@
 -- What attaching new words to an object asks of a view, and makes of it.
-use Rattle.std.specs.Prelude.{◌≡◌, ℕ, ◌+◌, ◌-◌, ◌/◌, ◌%◌, ◌<◌, ◌≤◌, List, [], ◌∷◌, length, get_or, Some, None, if◌then◌else◌}
+use Rattle.std.specs.Prelude.{◌≡◌, ℕ, ◌+◌, ◌-◌, ◌/◌, ◌%◌, ◌^◌, ◌<◌, ◌≤◌, List, [], ◌∷◌, length, get_or, Some, None, if◌then◌else◌}
 use Rattle.rma_layout.specs.Shape.{Shape}
 use Rattle.rma_layout.specs.Placement.{Place, same_place, metadata}
 use Rattle.window_rule.specs.View.{View, Dirt, Cell}
@@ -23,6 +23,7 @@ pub record IsSpelled (shape : Shape) (cells : List Cell) (chain : List Place) (c
 -- these blocks are a full chain of the object with this content, and the view knows so
 pub record IsBuilt (shape : Shape) (cells : List Cell) (object : Place) (chain : List Place) (content : List ℕ) : Type 0 where
   pub enough : length chain ≡ chain_length shape object content
+  pub few_words : length content ≤ 2 ^ 20
   pub lies : LiesAt object chain
   pub spelled : IsSpelled shape cells chain content
 

@@ -1,5 +1,5 @@
 -- What detaching an object makes of a view.
-use Rattle.std.specs.Prelude.{◌≡◌, ◌≢◌, ◌≤◌, ◌+◌, ℕ, zero, suc, List, [], ◌∷◌, length, Some, None}
+use Rattle.std.specs.Prelude.{◌≡◌, ◌≢◌, ◌≤◌, ◌+◌, ◌^◌, ℕ, zero, suc, List, [], ◌∷◌, length, Some, None}
 use Rattle.rma_layout.specs.Shape.{Shape}
 use Rattle.rma_layout.specs.Placement.{Place}
 use Rattle.window_rule.specs.View.{View, Known, Cell, Dirt, Marked, AsWriter}
@@ -39,6 +39,7 @@ pub record Detaches {N : Type 0} (shape : Shape) (object : Place) (before after 
   pub view : after ≡ detached object known cells before
   pub same : (was : Known) → known_of before.known object ≡ Some was → was ≡ known
   pub blocks : length known.chain ≡ chain_length shape object known.content
+  pub few_words : length known.content ≤ 2 ^ 20
   pub lies : LiesAt object known.chain
   pub spelled : IsSpelled shape cells known.chain known.content
   pub apart : (block : Place) → times block known.chain + times block (places_of before.private) ≤ 1

@@ -33,7 +33,13 @@ lasting_wholes_of AsWhole = 1
 lasting_wholes_of WriterReturning = 0
 lasting_wholes_of WholeReturning = 0
 
+-- a gate word, beside the places of each kind and those of them that are to last
+pub record IsGateCounted (word writers wholes lasting_writers lasting_wholes : ℕ) : Type 0 where
+  pub word_is : word ≡ gate_word writers wholes
+  -- a writer stands beside no whole one but such as are about to leave, and the other way about
+  pub apart : 0 < lasting_wholes → lasting_writers ≡ 0
+
 -- It reads the gate word, and the gate place of each view. That a view with dirt has a writer's place stands with the dirt.
-pub record GateHolds (word : ℕ) (places : List GatePlace) : Type 0 where
-  pub word_is : word ≡ gate_word (sum_by writers_of places) (sum_by wholes_of places)
-  pub apart : 0 < sum_by lasting_wholes_of places → sum_by lasting_writers_of places ≡ 0
+abbrev pub GateHolds : ℕ → List GatePlace → Type 0
+GateHolds word places = IsGateCounted word (sum_by writers_of places) (sum_by wholes_of places)
+    (sum_by lasting_writers_of places) (sum_by lasting_wholes_of places)

@@ -1,6 +1,6 @@
 -- What stands at each object and in each free list. It is no word of the window: the invariant says that there are such
 -- objects and lists, and each fact of it ties them either to words or to views.
-use Rattle.std.specs.Prelude.{◌≡◌, ℕ, ◌<◌, get_or, ◌+◌, ◌-◌, ◌/◌, ◌%◌, ◌^◌, ◌==◌, ◌&&◌, not, List, [], ◌∷◌, length, Option, Some, None, if◌then◌else◌}
+use Rattle.std.specs.Prelude.{◌≡◌, ℕ, ◌<◌, ◌≤◌, get_or, ◌+◌, ◌-◌, ◌/◌, ◌%◌, ◌^◌, ◌==◌, ◌&&◌, not, List, [], ◌∷◌, length, Option, Some, None, if◌then◌else◌}
 use Rattle.std.specs.List.{AllByRecursion}
 use Rattle.rma_layout.specs.Shape.{Shape}
 use Rattle.rma_layout.specs.Placement.{Place, IsBlock, raw_of, metadata, same_place}
@@ -41,6 +41,7 @@ chain_length shape object content = if not (is_reserved shape object.block) && i
 -- once, is said by the part on blocks
 pub record IsKeptIn (shape : Shape) (sizes : Place → ℕ) (cells : Place → ℕ → ℕ) (object : Place) (chain : List Place) (content : List ℕ) : Type 0 where
   pub size : sizes object ≡ length content
+  pub few_words : length content ≤ 2 ^ 20
   pub blocks : length chain ≡ chain_length shape object content
   pub linked : AreLinked cells chain
   pub payload : (k : ℕ) → k < length content → cells (get_or chain (k / (shape.words - 1)) metadata) (1 + k % (shape.words - 1)) ≡ get_or content k 0

@@ -8,7 +8,7 @@ use Rattle.rma_layout.specs.Placement.{Place}
 use Rattle.lock_words.specs.declared.want.Want.{Want}
 use Rattle.lock_words.specs.declared.want.Want.TheVariants.{Share, Mark, Rise}
 use Rattle.lock_words.specs.Conflicts.{Conflicts}
-use Rattle.window_rule.specs.View.{View, Hold, Shared, Marked, Returning, OfObject}
+use Rattle.window_rule.specs.View.{View, Hold, Shared, Marked, Returning, Target, OfObject}
 use Rattle.window_rule.specs.Locks.{with_lock, without_lock}
 use Rattle.window_rule.specs.RightsHold.{IsAlone}
 use Rattle.window_rule.specs.Known.{without_known}
@@ -30,12 +30,12 @@ module _ {N : Type 0} where
   abbrev pub tried : View N → View N
   tried view = record view { takes = view.takes + 1 }
 
-  -- a step on an object was refused for the word that it found
-  abbrev pub refused : Place → Want → ℕ → View N → View N
-  refused object want word view =
-      record view { refusals = view.refusals ++ record { target = OfObject object; want = want; word = word } ∷ [] }
+  -- a step on this target was refused for the word that it found
+  abbrev pub refused : Target → Want → ℕ → View N → View N
+  refused target want word view =
+      record view { refusals = view.refusals ++ record { target = target; want = want; word = word } ∷ [] }
 
-  -- a step that tries to lock an object: it has what it wanted where the word does not conflict, and else it was refused.
+  -- a step that tries to have a lock or a place: it has what it wanted where the word does not conflict, and else it was refused.
   -- A view that is alone is never refused.
   pub record Tries (shape : Shape) (want : Want) (before : View N) (found : ℕ) (after granted refusal : View N) : Type 0 where
     pub took : ¬ Conflicts want found → after ≡ granted
@@ -45,15 +45,15 @@ module _ {N : Type 0} where
 module _ {N : Type 0} (shape : Shape) (object : Place) (before : View N) (found : ℕ) (after : View N) where
   -- a share is added. Where it is refused the word still counts it
   abbrev pub Shares : Type 0
-  Shares = Tries shape Share before found after (tried (locked object Shared before)) (refused object Share found (tried (locked object Returning before)))
+  Shares = Tries shape Share before found after (tried (locked object Shared before)) (refused (OfObject object) Share found (tried (locked object Returning before)))
 
   -- the mark is set in a word that was 0
   abbrev pub Marks : Type 0
-  Marks = Tries shape Mark before found after (tried (locked object Marked before)) (refused object Mark found (tried before))
+  Marks = Tries shape Mark before found after (tried (locked object Marked before)) (refused (OfObject object) Mark found (tried before))
 
   -- the mark is set in a word that was 1, in place of the share
   abbrev pub Rises : Type 0
-  Rises = Tries shape Rise before found after (tried (locked object Marked before)) (refused object Rise found (tried before))
+  Rises = Tries shape Rise before found after (tried (locked object Marked before)) (refused (OfObject object) Rise found (tried before))
 
 -- a share or the mark is given up
 abbrev pub Leaves : {N : Type 0} → Place → View N → View N → Type 0

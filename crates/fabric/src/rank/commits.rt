@@ -2,8 +2,9 @@
 ghost use Rattle.std.specs.Prelude.{◌≡◌};
 ghost use Rattle.object_words.specs.Entries.{Entry};
 ghost use Rattle.window_rule.specs.Lengths.{Places};
-ghost use Rattle.window_rule.specs.Truths.{IsTrueView};
+ghost use Rattle.window_rule.specs.Truths.{IsTrueView, WasLawful};
 ghost use Rattle.window_rule.specs.Commit.{CommitsNote, MayCommit};
+ghost use Rattle.window_rule.specs.Trails.{Follows};
 
 use crate::rank::Rank;
 use crate::window::Window;
@@ -28,6 +29,8 @@ impl<L: Law> Rank<L> {
         ensures window { self.new.window ≡ self.old.window }
         ensures view { Places self.old.view result self.new.view }
         ensures truths { IsTrueView L.fits window.now.shape self.new.view }
+        ensures lawful { WasLawful L.fits window.now.shape Word.Commit result self.new.view }
+        ensures follows { Follows self.old.view self.new.view }
     {
         self.load::<Brand>(window, Word::Commit)
     }

@@ -5,6 +5,8 @@ ghost use Rattle.window_rule.specs.Lengths.{MayRead, Measures};
 ghost use Rattle.window_rule.specs.Reads.{Gets, MayGet, MayPut, put_in};
 ghost use Rattle.window_rule.specs.Attach.{AttachesAll, MayAttachSome};
 ghost use Rattle.window_rule.specs.Detach.{Detaches, MayDetach};
+ghost use Rattle.window_rule.specs.Truths.{IsTrueView};
+ghost use Rattle.window_rule.specs.Trails.{Follows};
 
 use crate::rank::Rank;
 use crate::window::Window;
@@ -20,6 +22,8 @@ impl<L: Law> Rank<L> {
         requires may { MayRead self.old.view o }
         ensures window { self.new.window ≡ self.old.window }
         ensures view { Measures o self.old.view result self.new.view }
+        ensures truths { IsTrueView L.fits window.now.shape self.new.view }
+        ensures follows { Follows self.old.view self.new.view }
     {
         self.load::<Brand>(window, Word::Length(o))
     }
@@ -32,6 +36,7 @@ impl<L: Law> Rank<L> {
         requires may { MayDetach self.old.view o }
         ensures window { self.new.window ≡ self.old.window }
         ensures view { Detaches window.now.shape o self.old.view self.new.view }
+        ensures follows { Follows self.old.view self.new.view }
     {
         self.store::<Brand>(window, Word::Length(o), 0);
     }
@@ -44,6 +49,7 @@ impl<L: Law> Rank<L> {
         requires may { MayGet self.old.view b }
         ensures window { self.new.window ≡ self.old.window }
         ensures view { Gets window.now.shape b i self.old.view result self.new.view }
+        ensures follows { Follows self.old.view self.new.view }
     {
         self.load::<Brand>(window, Word::Data(b, i))
     }
@@ -56,6 +62,7 @@ impl<L: Law> Rank<L> {
         requires may { MayPut self.old.view b }
         ensures window { self.new.window ≡ self.old.window }
         ensures view { self.new.view ≡ put_in b i v self.old.view }
+        ensures follows { Follows self.old.view self.new.view }
     {
         self.store::<Brand>(window, Word::Data(b, i), v);
     }
@@ -68,6 +75,7 @@ impl<L: Law> Rank<L> {
         requires may { MayAttachSome window.now.shape o len self.old.view }
         ensures window { self.new.window ≡ self.old.window }
         ensures view { AttachesAll window.now.shape o self.old.view len self.new.view }
+        ensures follows { Follows self.old.view self.new.view }
     {
         self.store::<Brand>(window, Word::Length(o), len);
     }

@@ -6,6 +6,7 @@ ghost use Rattle.window_rule.specs.Objects.{first_of};
 ghost use Rattle.window_rule.specs.RightsHold.{IsAlone};
 ghost use Rattle.window_rule.specs.Partition.{places_of, times};
 ghost use Rattle.window_rule.specs.Pool.{Heads, MayLink, MayNext, MayPop, MayPush, MayRenew, Nexts, linked, missed, popped, pushed, renewed, Renews};
+ghost use Rattle.window_rule.specs.Trails.{Follows};
 
 use crate::rank::Rank;
 use crate::window::Window;
@@ -23,6 +24,7 @@ impl<L: Law> Rank<L> {
         requires rank { r < window.now.shape.ranks }
         ensures window { self.new.window ≡ self.old.window }
         ensures view { Heads window.now.shape r self.old.view result self.new.view }
+        ensures follows { Follows self.old.view self.new.view }
     {
         self.load::<Brand>(window, Word::Head(r))
     }
@@ -34,6 +36,7 @@ impl<L: Law> Rank<L> {
         requires may { MayNext self.old.view b }
         ensures window { self.new.window ≡ self.old.window }
         ensures view { Nexts window.now.shape b self.old.view result self.new.view }
+        ensures follows { Follows self.old.view self.new.view }
     {
         self.load::<Brand>(window, Word::FreeList(b))
     }
@@ -47,6 +50,7 @@ impl<L: Law> Rank<L> {
             (λ block. (block ≡ on_rank r (first_of head)) × (self.new.view ≡ popped r block next self.old.view) × (times block (places_of self.old.view.private) ≡ 0))
             (λ found. (found ≢ head) × (self.new.view ≡ missed r head found self.old.view)) }
         ensures alone { IsAlone window.now.shape self.old.view → IsOk result }
+        ensures follows { Follows self.old.view self.new.view }
     {
         let new = (head / TAG + 1) * TAG + next;
         let found = self.compare_exchange::<Brand>(window, Word::Head(r), head, new);
@@ -64,6 +68,7 @@ impl<L: Law> Rank<L> {
         requires may { MayLink self.old.view b next }
         ensures window { self.new.window ≡ self.old.window }
         ensures view { self.new.view ≡ linked b next self.old.view }
+        ensures follows { Follows self.old.view self.new.view }
     {
         self.store::<Brand>(window, Word::FreeList(b), next);
     }
@@ -77,6 +82,7 @@ impl<L: Law> Rank<L> {
             (λ _. self.new.view ≡ pushed b self.old.view)
             (λ found. (found ≢ head) × (self.new.view ≡ missed b.rank head found self.old.view)) }
         ensures alone { IsAlone window.now.shape self.old.view → IsOk result }
+        ensures follows { Follows self.old.view self.new.view }
     {
         window.geometry().keeps_ranges();
         let new = (head / TAG + 1) * TAG + b.block();
@@ -91,6 +97,7 @@ impl<L: Law> Rank<L> {
         requires alone { IsAlone window.now.shape self.old.view }
         ensures window { self.new.window ≡ self.old.window }
         ensures view { Renews r self.old.view self.new.view }
+        ensures follows { Follows self.old.view self.new.view }
     {
         let head = self.head(window, r);
         self.renew_at(window, r, head);
@@ -103,6 +110,7 @@ impl<L: Law> Rank<L> {
         requires may { MayRenew window.now.shape self.old.view r head }
         ensures window { self.new.window ≡ self.old.window }
         ensures view { self.new.view ≡ renewed r self.old.view }
+        ensures follows { Follows self.old.view self.new.view }
     {
         self.store::<Brand>(window, Word::Head(r), head % TAG);
     }
