@@ -11,7 +11,7 @@ pub(crate) struct Lawful<L> {
 
 impl<L: Law> TableRule<(), View<L::Note>, Geometry> for Lawful<L> {
     ghost use Rattle.window_rule.specs.Lawful.{IsRuled};
-    ghost use Rattle.window_rule.specs.View.{first_view};
+    ghost use Rattle.window_rule.specs.Opening.{first_view};
 
     ghost holds = { λ shape state. IsRuled L.fits shape state };
 

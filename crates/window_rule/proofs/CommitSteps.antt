@@ -1,8 +1,8 @@
 -- An entry is committed: the whole invariant is kept.
-use Rattle.std.proofs.Common.{◌≡◌, ◌≢◌, ℕ, zero, suc, ◌+◌, ◌*◌, ◌%◌, ◌^◌, ◌<◌, ◌≤◌, ◌||◌, eqb, Bool, true, false, cond, List, [], ◌∷◌, ◌++◌, append-nil, append_assoc, map, length, length-append, set, get_or, refl, sym, ap, ◌∙◌, subst, inl, inr, arith, Option, Some, None, is_some}
+use Rattle.std.proofs.Common.{◌≡◌, ◌≢◌, ℕ, zero, suc, ◌+◌, ◌*◌, ◌%◌, ◌^◌, ◌<◌, ◌≤◌, ◌==◌, min, ◌||◌, eqb, Bool, true, false, cond, List, [], ◌∷◌, ◌++◌, append-nil, append_assoc, map, length, length-append, set, get_or, refl, sym, ap, ◌∙◌, subst, inl, inr, arith, Option, Some, None, is_some}
 use Rattle.std.specs.List.{AllByRecursion}
 use Rattle.std.proofs.lemmas.List.Sums.{sum_by-cons}
-use Rattle.std.proofs.lemmas.Bool.{cases_eq, cases_Bool, true≢false}
+use Rattle.std.proofs.lemmas.Bool.{cases_eq, cases_lt, cases_Bool, true≢false}
 use Rattle.std.proofs.lemmas.Bool.Decides.{nat_tests}
 use Rattle.std.proofs.lemmas.List.{length-map}
 use mathlib.Core.Option.{some, some-ne-none}
@@ -20,7 +20,7 @@ use Rattle.window_rule.specs.View.{View, Dirt}
 use Rattle.window_rule.specs.Locks.{hold_of}
 use Rattle.window_rule.specs.Dirty.{dirt_of}
 use Rattle.window_rule.specs.Words.{Words, with_word, locks_in, sizes_in, data_in, nexts_in, heads_in, stamps_in}
-use Rattle.window_rule.specs.RightsHold.{RightsHold, Stake, stake_of, right_count, AreRanks}
+use Rattle.window_rule.specs.RightsHold.{RightsHold, least_of, Stake, stake_of, right_count, AreRanks}
 use Rattle.window_rule.specs.LocksHold.{LocksHold}
 use Rattle.window_rule.specs.HistoryHolds.{AreHeard, past_of, HistoryHolds, IsChronicle, chronicle_of, is_among, numbers_from}
 use Rattle.window_rule.specs.Objects.{Objects}
@@ -30,7 +30,7 @@ use Rattle.window_rule.specs.RoomHolds.{HasStock, stock_of, sum_below, count_on,
 use Rattle.window_rule.specs.Partition.{Holder, FreeOf, OwnOf, Within, part_of, places_of, times}
 use Rattle.window_rule.specs.StampsHold.{StampsHold, IsOpened, IsOpenState, open_state_of, opened_lists, opened_of}
 use Rattle.window_rule.specs.Permits.{Moment, Permits}
-use Rattle.window_rule.specs.Commit.{committed, flagged, released_from, MayCommit, Commits, CommitsNote, need_of}
+use Rattle.window_rule.specs.Commit.{committed, flagged, released_from, MayCommit, Commits, need_of}
 use Rattle.window_rule.specs.Lawful.{Holds, locks_of, dirts_of, owns_of}
 use Rattle.window_rule.proofs.Sums.{map-set_same, sum_by-set_at, two_in_sum, sum_below-zero, sum_below-add}
 use Rattle.window_rule.proofs.Counting.{sum_below-mono}
@@ -59,6 +59,27 @@ among-counts rank (right ∷ more) e =
     elim (cases_eq right rank) [
       | inl same ↦ let one : one_at right rank ≡ 1 = grind (arith, nat_tests) in omega (arith, sum_by-cons (λ r. one_at r rank) right more)
       | inr ne ↦ let rest : is_among rank more ≡ true = grind (arith, nat_tests) in omega (arith, among-counts rank more rest, sum_by-cons (λ r. one_at r rank) right more)
+    ]
+
+among_behind : (b : Bool) (rank : ℕ) (more : List ℕ) → is_among rank more ≡ true → cond b true (is_among rank more) ≡ true
+among_behind true rank more e = refl
+among_behind false rank more e = e
+
+-- the least right is one of the rights
+pub among_least : (rights : List ℕ) → rights ≢ [] → is_among (least_of rights) rights ≡ true
+among_least [] some_right = absurd (some_right refl)
+among_least (right ∷ []) some_right = let same : (right == right) ≡ true = grind (arith, nat_tests) in ap (λ b. cond b true false) same
+among_least (right ∷ (next ∷ more)) some_right =
+    let rest = least_of (next ∷ more) in
+    let in_rest = among_least (next ∷ more) (λ e. cc e) in
+    elim (cases_lt right rest) [
+      | inl first ↦
+          let least : min right rest ≡ right = grind (arith, nat_tests) in
+          let same : (right == right) ≡ true = grind (arith, nat_tests) in
+          ap (λ n. cond (right == n) true (is_among n (next ∷ more))) least ∙ ap (λ b. cond b true (is_among right (next ∷ more))) same
+      | inr later ↦
+          let least : min right rest ≡ rest = grind (arith, nat_tests) in
+          ap (λ n. cond (right == n) true (is_among n (next ∷ more))) least ∙ among_behind (right == rest) rest (next ∷ more) in_rest
     ]
 
 pub among-below : (rank ranks : ℕ) (rights : List ℕ) → is_among rank rights ≡ true → AreRanks ranks rights → rank < ranks
@@ -137,6 +158,9 @@ module _ {N : Type 0} (fits : Shape → Entry N → Type 0) (shape : Shape) (wor
   abbrev history : List (Entry N)
   history = now.lawful.ground.history
 
+  rank_in : is_among entry.rank before.rights ≡ true
+  rank_in = ap (λ r. is_among r before.rights) may.rank ∙ among_least before.rights now.live
+
   abbrev objects : Objects
   objects = now.lawful.ground.objects
 
@@ -171,12 +195,12 @@ module _ {N : Type 0} (fits : Shape → Entry N → Type 0) (shape : Shape) (wor
   not_theirs j view ne at =
       elim (cases_Bool (is_among entry.rank view.rights)) [
         | inl theirs ↦
-            let below = among-below entry.rank shape.ranks before.rights may.rank (h.rights.are_ranks id (stake_of before) stake_there) in
+            let below = among-below entry.rank shape.ranks before.rights rank_in (h.rights.are_ranks id (stake_of before) stake_there) in
             absurd (omega (
               arith,
               h.rights.each_once entry.rank below,
               two_in_sum (λ (stake : Stake). right_count entry.rank stake.rights) (map stake_of views) id j (stake_of before) (stake_of view) ne stake_there (at_map stake_of views j view at),
-              among-counts entry.rank before.rights may.rank,
+              among-counts entry.rank before.rights rank_in,
               among-counts entry.rank view.rights theirs,
             ))
         | inr not_in ↦ not_in
@@ -231,7 +255,7 @@ module _ {N : Type 0} (fits : Shape → Entry N → Type 0) (shape : Shape) (wor
       (may.room rank below)) in
       let spare = spare_sum (length dirts) asks (λ j. has j + keeps j) id need each (omega (arith, below_length views id before now.there)) mine in
       let sums = sum_below-add (length dirts) has keeps (λ j. has j + keeps j) (λ j. refl) in
-      has_room shape history objects views id before after now.there entry may.in_order may.writes may.attached refl h.contents h.dirt rank
+      has_room shape history objects views id before after now.there entry may.in_order.1 may.writes may.attached refl h.contents h.dirt rank
       (used_by_history shape (sizes_in words) (data_in words) (store_after history) objects dirts h.objects h.contents h.dirt h.lie rank 0 owns now.lawful.ground.free now.lawful.ground.owner need below h.blocks (omega arith))
 
   history_holds : HistoryHolds fits shape (commits + 1) longer new_views
@@ -242,7 +266,7 @@ module _ {N : Type 0} (fits : Shape → Entry N → Type 0) (shape : Shape) (wor
         (record {
           begins = ([], append-nil longer);
           rest = tt;
-          own = ap (λ l. l ++ length history ∷ []) (own_in_history history (chronicle_of before) (h.history.each id before now.there)) ∙ sym (numbers-push before.rights entry 0 history ∙ (let at : 0 + length history ≡ length history = omega arith in ap (λ b. numbers_from 0 before.rights history ++ cond b ((0 + length history) ∷ []) []) may.rank ∙ ap (λ n. numbers_from 0 before.rights history ++ n ∷ []) at));
+          own = ap (λ l. l ++ length history ∷ []) (own_in_history history (chronicle_of before) (h.history.each id before now.there)) ∙ sym (numbers-push before.rights entry 0 history ∙ (let at : 0 + length history ≡ length history = omega arith in ap (λ b. numbers_from 0 before.rights history ++ cond b ((0 + length history) ∷ []) []) rank_in ∙ ap (λ n. numbers_from 0 before.rights history ++ n ∷ []) at));
         })
         (λ j view ne at was. record {
           begins = (was.begins.0 ++ entry ∷ [], sym (append_assoc view.seen was.begins.0 (entry ∷ [])) ∙ ap (λ l. l ++ entry ∷ []) was.begins.1);
@@ -255,8 +279,8 @@ module _ {N : Type 0} (fits : Shape → Entry N → Type 0) (shape : Shape) (wor
       room = EachEntry-push (λ contents (e : Entry N). HasRoomOnEach shape contents e.writes) [] history entry h.history.legal.room room_suffices;
     };
     fitting = All-push (fits shape) history entry h.history.fitting may.fitting;
-    ranked = All-push (λ (e : Entry N). e.rank < shape.ranks) history entry h.history.ranked (among-below entry.rank shape.ranks before.rights may.rank (h.rights.are_ranks id (stake_of before) stake_there));
-    in_order = All-push (λ (e : Entry N). IsInOrder e.writes) history entry h.history.in_order may.in_order;
+    ranked = All-push (λ (e : Entry N). e.rank < shape.ranks) history entry h.history.ranked (among-below entry.rank shape.ranks before.rights rank_in (h.rights.are_ranks id (stake_of before) stake_there));
+    in_order = All-push (λ (e : Entry N). IsInOrder e.reads × IsInOrder e.writes) history entry h.history.in_order may.in_order;
   }
 
   stamps_hold : StampsHold shape (stamps_in words) (commits + 1) now.lawful.ground.opener new_views
@@ -303,15 +327,15 @@ module _ {N : Type 0} (fits : Shape → Entry N → Type 0) (shape : Shape) (wor
     lie = h.lie;
     free = h.free;
     blocks = IsPartition-same shape views id before after now.there now.lawful.ground.free (released_from objects id) now.lawful.ground.owner refl (record { each = λ holder b. ap (times b) (released_part holder) ∙ h.blocks.each holder b; reserved = h.blocks.reserved });
-    contents = contents_agree shape history objects views id before after now.there entry may.in_order may.writes may.attached refl h.contents h.dirt;
-    dirt = dirt_holds shape history objects views id before after now.there entry may.in_order may.writes may.attached refl h.contents h.dirt;
+    contents = contents_agree shape history objects views id before after now.there entry may.in_order.1 may.writes may.attached refl h.contents h.dirt;
+    dirt = dirt_holds shape history objects views id before after now.there entry may.in_order.1 may.writes may.attached refl h.contents h.dirt;
     holdings = EachView-set (holdings_of {N = N}) views id before after now.there (λ _. AreHeld objects) (λ _. AreHeld (released_from objects id))
         (let was = h.holdings id before now.there in record { read = λ object reading is. ((was.read object reading is).0, refl, (was.read object reading is).2); marked = λ object dirt is. absurd (cc is) })
         (λ j view ne at was. record { read = was.read; marked = was.marked }) h.holdings;
     own = OwnBlocksHold-same shape views id before after now.there (nexts_in words) refl h.own;
     memory = EachView-set (memory_of {N = N}) views id before after now.there (λ _. Remembers shape) (λ _. Remembers shape)
         (λ object known is. let still = still_known fits shape before words views id now.lawful.ground h now.there object known is in
-        (still.0, stored-other shape history objects views id before after now.there entry may.in_order may.writes may.attached refl h.contents h.dirt object ((h.holdings id before now.there).read object known is).1 ∙ still.1))
+        (still.0, stored-other shape history objects views id before after now.there entry may.in_order.1 may.writes may.attached refl h.contents h.dirt object ((h.holdings id before now.there).read object known is).1 ∙ still.1))
         (λ j view ne at was. was) h.memory;
     cells = EachView-set (stash_of {N = N}) views id before after now.there (λ _. AreCells (data_in words)) (λ _. AreCells (data_in words))
         (λ block i word has e. h.cells id before now.there block i word (elim has [
@@ -335,15 +359,11 @@ commit_permitted fits shape before entry may = record {
               (sym few) (commit_keeps fits shape words views id before now entry may);
         };
         same_rights = refl;
-        told = (now.lawful.ground.history, now.lawful.holds.history.counted, refl);
+        told = record {
+          history = now.lawful.ground.history;
+          goes_on = (now.lawful.holds.history.each id before now.there).begins;
+          found_is = now.lawful.holds.history.counted;
+          view = refl;
+        };
       };
-}
-
-pub note_permitted : {N : Type 0} (fits : Shape → Entry N → Type 0) (shape : Shape) (before : View N) (note : N)
-    → ((entry : Entry N) × (entry.note ≡ note) × MayCommit fits shape before entry)
-    → Permits fits shape Commit (λ found. (found + 1) % 2 ^ 64) before (CommitsNote fits shape note before)
-note_permitted fits shape before note may = record {
-  goes = λ words views id now word_fits.
-      let gone = (commit_permitted fits shape before may.0 may.2).goes words views id now word_fits in
-      record { after = gone.after; lawful = gone.lawful; same_rights = gone.same_rights; told = (may.0, may.1, may.2, gone.told) };
 }

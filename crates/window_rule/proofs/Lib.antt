@@ -52,3 +52,4 @@ pub mod Rewrites
 pub mod TrueViews
 pub mod WholeOwn
 pub mod Openings
+pub mod LawsHold

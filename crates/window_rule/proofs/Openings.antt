@@ -1,5 +1,5 @@
 -- The words that a window begins with are lawful, with the view that stands for every rank.
-use Rattle.std.proofs.Common.{◌≡◌, ◌≢◌, ℕ, zero, suc, ◌+◌, ◌-◌, ◌*◌, ◌/◌, ◌%◌, ◌<◌, ◌≤◌, ◌&&◌, not, ◌==◌, ◌⊎◌, Bool, true, false, Some, None, get_or, cond, eqb, ltb, List, [], ◌∷◌, set, replicate, refl, sym, ap, ◌∙◌, subst, inl, inr, arith, nat_le, nat_lt, lt-ltb, length-set, ◌^◌}
+use Rattle.std.proofs.Common.{◌≡◌, ◌≢◌, ℕ, zero, suc, ◌+◌, ◌-◌, ◌*◌, ◌/◌, ◌%◌, ◌<◌, ◌≤◌, ◌&&◌, not, ◌==◌, ◌⊎◌, Bool, true, false, Some, None, get_or, cond, eqb, ltb, List, [], ◌∷◌, set, replicate, map, refl, sym, ap, ◌∙◌, subst, inl, inr, arith, nat_le, nat_lt, lt-ltb, length-set, ◌^◌}
 use Rattle.std.specs.List.{AllByRecursion, range_with_len}
 use Rattle.std.proofs.lemmas.Bool.{cases_eq, cases_lt, ltb-true, le-ltb}
 use Rattle.object_words.specs.Contents.{is_empty}
@@ -17,7 +17,7 @@ use Rattle.rma_layout.specs.Ranges.{IsInRange}
 use Rattle.rma_layout.specs.Placement.{Place, IsBlock}
 use Rattle.rma_layout.specs.Words.{IsWord, number_of, word_in}
 use Rattle.rma_layout.proofs.WordLemmas.{word_in-set_same, word_in-set_other, same_from_number_of, number_of-lt}
-use Rattle.window_rule.specs.View.{View, first_view}
+use Rattle.window_rule.specs.View.{View}
 use Rattle.window_rule.specs.RightsHold.{Stake, stake_of, right_count, AreRanks, IsAlone}
 use Rattle.window_rule.specs.Lawful.{IsRuled, Holds, Ground, owns_of, dirts_of}
 use Rattle.window_rule.specs.Words.{Words, is_block, words_in, sizes_in, data_in, nexts_in, heads_in}
@@ -25,12 +25,13 @@ use Rattle.window_rule.specs.EachView.{EachView}
 use Rattle.window_rule.specs.Locks.{hold_of}
 use Rattle.window_rule.specs.Dirty.{dirt_of}
 use Rattle.window_rule.specs.HistoryHolds.{AreHeard, past_of, IsChronicle, chronicle_of}
-use Rattle.window_rule.specs.Objects.{IsKeptIn, ObjectsStand, LiesAt, AreThreaded, IsFreeList, number_to, first_of}
+use Rattle.window_rule.specs.Objects.{IsKeptIn, ObjectsStand, LiesAt, AreThreaded, IsFreeList, number_to, first_of, tag_of}
 use Rattle.window_rule.specs.ContentsHold.{IsDirtOrNone, AreHeld, holdings_of, IsOwnKnown, AreCells, stash_of}
 use Rattle.window_rule.specs.MemoryHolds.{Remembers, memory_of}
 use Rattle.window_rule.specs.RoomHolds.{HasStock, stock_of}
 use Rattle.window_rule.specs.Partition.{Holder, FreeOf, OwnOf, Within, IsPartition, part_of, times, same_holder}
-use Rattle.window_rule.specs.NotesHold.{AreNoted, notebook_of}
+use Rattle.window_rule.specs.NotesHold.{AreNoted, IsNoted, notebook_of}
+use Rattle.window_rule.specs.Pool.{note_of}
 use Rattle.window_rule.specs.StampsHold.{IsOpened, IsOpenState, opened_of, opened_lists, open_state_of}
 use Rattle.window_rule.proofs.Sums.{sum_below-zero}
 use Rattle.object_words.specs.Blocks.{one_if, is_reserved, blocks_for, on_rank as place_on}
@@ -39,7 +40,7 @@ use Rattle.std.proofs.lemmas.Nat.{div_below}
 use Rattle.window_rule.proofs.WordFunctions.{is_block-true, is_block-tells}
 use Rattle.window_rule.proofs.LockLemmas.{place_cases, same_place-refl, same_place-false}
 use Rattle.window_rule.proofs.WordFunctions.{words_in-word}
-use Rattle.window_rule.specs.Opening.{first_word_of, set_so_far, AreWords, first_next, first_head_word, order_of}
+use Rattle.window_rule.specs.Opening.{rising_blocks, first_list, first_note, first_view, first_word_of, set_so_far, AreWords, first_next, first_head_word, order_of}
 
 -- one word is set
 pub AreWords-set : (shape : Shape) (words : List ℕ) (said after : Word → ℕ) (word : Word) (new : ℕ) → AreWords shape words said → IsWord shape word
@@ -164,6 +165,32 @@ are_ranks : (ranks start n : ℕ) → start + n ≤ ranks → AreRanks ranks (ra
 are_ranks ranks start zero h = tt
 are_ranks ranks start (suc n) h = (omega arith, are_ranks ranks (start + 1) n (omega arith))
 
+each_rank : {X : Type 0} (P : X → Type 0) (f : ℕ → X) (start n : ℕ) → ((rank : ℕ) → start ≤ rank → rank < start + n → P (f rank))
+    → AllByRecursion P (map f (range_with_len start n))
+each_rank P f start zero h = tt
+each_rank P f start (suc n) h = (h start (omega arith) (omega arith), each_rank P f (start + 1) n (λ rank low high. h rank (omega arith) (omega arith)))
+
+note_from : (shape : Shape) (start n rank : ℕ) → start ≤ rank → rank < start + n
+    → note_of (map (first_note shape) (range_with_len start n)) rank ≡ Some (first_note shape rank)
+note_from shape start zero rank low high = absurd (omega arith)
+note_from shape start (suc n) rank low high =
+    elim (cases_eq start rank) [
+      | inl same ↦
+          let test : (start == rank) ≡ true = grind (arith, nat_tests) in
+          ap (λ t. cond t (Some (first_note shape start)) (note_of (map (first_note shape) (range_with_len (start + 1) n)) rank)) test
+          ∙ ap (λ r. Some (first_note shape r)) same
+      | inr ne ↦
+          let test : (start == rank) ≡ false = grind (arith, nat_tests) in
+          ap (λ t. cond t (Some (first_note shape start)) (note_of (map (first_note shape) (range_with_len (start + 1) n)) rank)) test
+          ∙ note_from shape (start + 1) n rank (omega arith) (omega arith)
+    ]
+
+-- and it has noted each free list
+pub first_lists : {N : Type 0} (shape : Shape) (view : View N) → view ≡ first_view {N = N} shape → (rank : ℕ) → rank < shape.ranks
+    → note_of view.notes rank ≡ Some (first_note shape rank)
+first_lists shape view first rank below =
+    ap (λ v. note_of v.notes rank) first ∙ note_from shape 0 shape.ranks rank (omega arith) (omega arith)
+
 some_rank : (ranks : ℕ) → 1 ≤ ranks → range_with_len 0 ranks ≢ []
 some_rank zero h e = omega arith
 some_rank (suc n) h e = absurd (cc e)
@@ -172,26 +199,21 @@ first_of_one : {X : Type 0} (x y : X) (id : ℕ) → get_elem? (x ∷ []) id ≡
 first_of_one x y zero e = some-injective x y e
 first_of_one x y (suc id) e = absurd (some-ne-none y (sym e))
 
--- the free blocks of a rank, from one on
-abbrev blocks_from : ℕ → ℕ → ℕ → List Place
-blocks_from rank start zero = []
-blocks_from rank start (suc n) = record { rank = rank; block = start } ∷ blocks_from rank (start + 1) n
-
-times-none : (rank start n : ℕ) (block : Place) → (block.rank ≢ rank) ⊎ (block.block < start) → times block (blocks_from rank start n) ≡ 0
+times-none : (rank start n : ℕ) (block : Place) → (block.rank ≢ rank) ⊎ (block.block < start) → times block (rising_blocks rank start n) ≡ 0
 times-none rank start zero block h = refl
 times-none rank start (suc n) block h =
     let here : one_if (same_place (record { rank = rank; block = start }) block) ≡ 0 = grind (arith, nat_tests) in
     let rest = times-none rank (start + 1) n block (elim h [ inl a ↦ inl a | inr b ↦ inr (omega arith) ]) in
     omega arith
 
-times-past : (rank start n : ℕ) (block : Place) → start + n ≤ block.block → times block (blocks_from rank start n) ≡ 0
+times-past : (rank start n : ℕ) (block : Place) → start + n ≤ block.block → times block (rising_blocks rank start n) ≡ 0
 times-past rank start zero block h = refl
 times-past rank start (suc n) block h =
     let here : one_if (same_place (record { rank = rank; block = start }) block) ≡ 0 = grind (arith, nat_tests) in
     let rest = times-past rank (start + 1) n block (omega arith) in
     omega arith
 
-times-one : (rank start n : ℕ) (block : Place) → block.rank ≡ rank → start ≤ block.block → block.block < start + n → times block (blocks_from rank start n) ≡ 1
+times-one : (rank start n : ℕ) (block : Place) → block.rank ≡ rank → start ≤ block.block → block.block < start + n → times block (rising_blocks rank start n) ≡ 1
 times-one rank start zero block on low high = absurd (omega arith)
 times-one rank start (suc n) block on low high =
     elim (cases_eq start block.block) [
@@ -205,16 +227,16 @@ times-one rank start (suc n) block on low high =
           omega arith
     ]
 
-one_rank_of : (rank start n : ℕ) → AllByRecursion (λ (block : Place). block.rank ≡ rank) (blocks_from rank start n)
+one_rank_of : (rank start n : ℕ) → AllByRecursion (λ (block : Place). block.rank ≡ rank) (rising_blocks rank start n)
 one_rank_of rank start zero = tt
 one_rank_of rank start (suc n) = (refl, one_rank_of rank (start + 1) n)
 
-number_of_first : (rank start n : ℕ) → number_to (blocks_from rank start n) ≡ cond (ltb 0 n) start 0
+number_of_first : (rank start n : ℕ) → number_to (rising_blocks rank start n) ≡ cond (ltb 0 n) start 0
 number_of_first rank start zero = refl
 number_of_first rank start (suc n) = sym (ap (λ t. cond t start 0) (lt-ltb 0 (suc n) (omega arith)))
 
 threaded_from : (shape : Shape) (nexts : Place → ℕ) (rank start n : ℕ) → reserved_blocks shape ≤ start → start + n ≡ shape.blocks
-    → ((block : ℕ) → block < shape.blocks → nexts (place_on rank block) ≡ first_next shape block) → AreThreaded nexts (blocks_from rank start n)
+    → ((block : ℕ) → block < shape.blocks → nexts (place_on rank block) ≡ first_next shape block) → AreThreaded nexts (rising_blocks rank start n)
 threaded_from shape nexts rank start zero low high h = tt
 threaded_from shape nexts rank start (suc n) low high h = (
   h start (omega arith) ∙ (let next : first_next shape start ≡ cond (ltb 0 n) (start + 1) 0 = grind (arith, nat_tests) in next ∙ sym (number_of_first rank (start + 1) n)),
@@ -225,7 +247,7 @@ abbrev first_ground : {N : Type 0} → Shape → Ground N
 first_ground shape = record {
   history = [];
   objects = λ object. record { writer = None; chain = cond (is_reserved shape object.block && is_block shape object) (object ∷ []) []; content = Some [] };
-  free = λ rank. cond (ltb rank shape.ranks) (blocks_from rank (reserved_blocks shape) (shape.blocks - reserved_blocks shape)) [];
+  free = λ rank. cond (ltb rank shape.ranks) (first_list shape rank) [];
   owner = λ block. cond (is_reserved shape block.block) (Within block) (FreeOf block.rank);
   opener = λ object. None;
 }
@@ -332,7 +354,7 @@ module _ {N : Type 0} (fits : Shape → Entry N → Type 0) (shape : Shape) (wor
   link_below block false outside = omega arith
 
   free_list : (rank : ℕ) (b : Bool) → ltb rank shape.ranks ≡ b
-      → IsFreeList (heads_in all) (nexts_in all) rank (cond b (blocks_from rank (reserved_blocks shape) (shape.blocks - reserved_blocks shape)) [])
+      → IsFreeList (heads_in all) (nexts_in all) rank (cond b (first_list shape rank) [])
   free_list rank true e =
       let below : rank < shape.ranks = ltb-true rank shape.ranks e in
       let reserved = reserved_blocks shape in
@@ -358,8 +380,8 @@ module _ {N : Type 0} (fits : Shape → Entry N → Type 0) (shape : Shape) (wor
       let reserved = reserved_blocks shape in
       let n = shape.blocks - reserved in
       elim (cases_lt rank shape.ranks) [
-        | inr past ↦ ap (λ t. times block (cond t (blocks_from rank reserved n) [])) (le-ltb rank shape.ranks past) ∙ sym (let none : one_if (is_block shape block && (not (is_reserved shape block.block) && block.rank == rank)) ≡ 0 = grind (arith, nat_tests) in none)
-        | inl below ↦ ap (λ t. times block (cond t (blocks_from rank reserved n) [])) (lt-ltb rank shape.ranks below) ∙ (elim (cases_eq block.rank rank) [
+        | inr past ↦ ap (λ t. times block (cond t (rising_blocks rank reserved n) [])) (le-ltb rank shape.ranks past) ∙ sym (let none : one_if (is_block shape block && (not (is_reserved shape block.block) && block.rank == rank)) ≡ 0 = grind (arith, nat_tests) in none)
+        | inl below ↦ ap (λ t. times block (cond t (rising_blocks rank reserved n) [])) (lt-ltb rank shape.ranks below) ∙ (elim (cases_eq block.rank rank) [
           | inr ne ↦ times-none rank reserved n block (inl ne) ∙ sym (let none : one_if (is_block shape block && (not (is_reserved shape block.block) && block.rank == rank)) ≡ 0 = grind (arith, nat_tests) in none)
           | inl on ↦ elim (cases_lt block.block reserved) [
             | inl low ↦ times-none rank reserved n block (inr low) ∙ sym (let none : one_if (is_block shape block && (not (is_reserved shape block.block) && block.rank == rank)) ≡ 0 = grind (arith, nat_tests) in none)
@@ -398,6 +420,28 @@ module _ {N : Type 0} (fits : Shape → Entry N → Type 0) (shape : Shape) (wor
     reserved = λ block is_b low. ap (λ t. cond t (Within block) (FreeOf block.rank)) (lt-ltb block.block (reserved_blocks shape) low);
   }
 
+  -- the tag of each head is 0
+  low_tag : (rank : ℕ) → rank < shape.ranks → tag_of (heads_in all rank) ≤ 0
+  low_tag rank below =
+      let head = is (Head rank) below in
+      elim (cases_lt (reserved_blocks shape) shape.blocks) [
+        | inl some_free ↦ let first : first_head_word shape ≡ reserved_blocks shape = grind (arith, nat_tests) in omega (arith, in_range.blocks)
+        | inr none_free ↦ let first : first_head_word shape ≡ 0 = grind (arith, nat_tests) in omega arith
+      ]
+
+  noted_first : (rank : ℕ) → 0 ≤ rank → rank < 0 + shape.ranks → IsNoted (heads_in all) ground.free (first_note shape rank)
+  noted_first rank low high =
+      let below : rank < shape.ranks = omega arith in
+      let head = is (Head rank) below in
+      let same : tag_of (first_head_word shape) ≡ tag_of (heads_in all rank) = ap tag_of (sym head) in record {
+        tag = omega (arith, same);
+        same = λ _. record {
+          head = sym head;
+          list = sym (ap (λ t. cond t (first_list shape rank) []) (lt-ltb rank shape.ranks below));
+          next = λ next e. absurd (cc e);
+        };
+      }
+
   pub opening_holds : Holds fits shape all views ground
   opening_holds = record {
     rights = record {
@@ -432,7 +476,13 @@ module _ {N : Type 0} (fits : Shape → Entry N → Type 0) (shape : Shape) (wor
     memory = first_only {N = N} shape (memory_of {N = N}) (λ _. Remembers shape) (λ object known e. absurd (cc e));
     cells = first_only {N = N} shape (stash_of {N = N}) (λ _. AreCells (data_in all)) (λ block i word has e. absurd (cc e));
     room = first_only {N = N} shape (stock_of {N = N}) (λ _. HasStock shape) (λ rank. omega (arith, sum_below-zero shape.blocks));
-    notes = first_only {N = N} shape (notebook_of {N = N}) (λ _. AreNoted shape (heads_in all) ground.free) (record { notes = tt; alone = λ alone. record { now = tt; bounds = tt } });
+    notes = first_only {N = N} shape (notebook_of {N = N}) (λ _. AreNoted shape (heads_in all) ground.free) (record {
+      notes = each_rank (IsNoted (heads_in all) ground.free) (first_note shape) 0 shape.ranks noted_first;
+      alone = λ alone. record {
+        now = each_rank (λ note. note.head ≡ heads_in all note.rank) (first_note shape) 0 shape.ranks (λ rank low high. sym (is (Head rank) (omega arith)));
+        bounds = each_rank (λ one. tag_of (heads_in all one.0) ≤ one.1) (λ rank. (rank, 0)) 0 shape.ranks (λ rank low high. low_tag rank (omega arith));
+      };
+    });
     stamps = record {
       bound = λ object block. omega (arith, is (Stamp object) block);
       closed = λ object block none. ap (λ n. n % 2) (is (Stamp object) block);

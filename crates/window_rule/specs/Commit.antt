@@ -1,5 +1,6 @@
 -- What committing an entry asks of a view, and makes of it.
-use Rattle.std.specs.Prelude.{◌≡◌, ◌≢◌, ℕ, ◌+◌, ◌-◌, ◌<◌, ◌≤◌, ◌&&◌, ◌||◌, not, Bool, true, List, [], ◌∷◌, ◌++◌, map, length, Option, Some, None, is_some, ◌⊎◌, ◌==◌, if◌then◌else◌}
+use Rattle.std.specs.Prelude.{◌≡◌, ◌≢◌, ℕ, ◌+◌, ◌-◌, ◌<◌, ◌≤◌, ◌&&◌, ◌||◌, not, Bool, List, [], ◌∷◌, ◌++◌, map, length, Option, Some, None, is_some, ◌⊎◌, ◌==◌, if◌then◌else◌}
+use mathlib.Core.List.{IsPrefix}
 use Rattle.rma_layout.specs.Shape.{Shape}
 use Rattle.rma_layout.specs.Placement.{Place, IsBlock}
 use Rattle.object_words.specs.Blocks.{one_if, growth, is_reserved, on_rank as place_on}
@@ -7,7 +8,7 @@ use Rattle.object_words.specs.Contents.{words_at, is_empty, IsInOrder}
 use Rattle.object_words.specs.Entries.{Entry}
 use Rattle.window_rule.specs.View.{View, Dirt, Known}
 use Rattle.window_rule.specs.Dirty.{dirt_of}
-use Rattle.window_rule.specs.HistoryHolds.{is_among}
+use Rattle.window_rule.specs.RightsHold.{least_of}
 use Rattle.window_rule.specs.Objects.{Objects}
 use Rattle.window_rule.specs.ContentsHold.{Lasts}
 use Rattle.window_rule.specs.Known.{known_of}
@@ -57,9 +58,9 @@ WasRead view object words =
 
 pub record MayCommit {N : Type 0} (fits : Shape → Entry N → Type 0) (shape : Shape) (view : View N) (entry : Entry N) : Type 0 where
   pub allowed : 0 < view.allowance
-  pub rank : is_among entry.rank view.rights ≡ true
+  pub rank : entry.rank ≡ least_of view.rights
   pub fitting : fits shape entry
-  pub in_order : IsInOrder entry.writes
+  pub in_order : IsInOrder entry.reads × IsInOrder entry.writes
   pub reads : (object : Place) (words : List ℕ) → words_at entry.reads object ≡ Some words → IsBlock shape object × WasRead view object words
   pub writes : (object : Place) → words_at entry.writes object ≡ attached_of (dirt_of view.dirty object)
   pub attached : (object : Place) (dirt : Dirt) → dirt_of view.dirty object ≡ Some dirt → dirt.attached ≢ None
@@ -68,9 +69,8 @@ pub record MayCommit {N : Type 0} (fits : Shape → Entry N → Type 0) (shape :
       ≤ count_on rank (places_of view.private) + sum_below shape.blocks (kept_at view.dirty rank)
 
 -- the entry is the last of the history, and the view has seen all of it
-abbrev pub Commits : {N : Type 0} → Entry N → View N → ℕ → View N → Type 0
-Commits {N} entry before found after = (history : List (Entry N)) × (found ≡ length history) × (after ≡ committed history entry before)
-
--- an entry with this note, which the view may commit, is the last of the history
-abbrev pub CommitsNote : {N : Type 0} → (Shape → Entry N → Type 0) → Shape → N → View N → ℕ → View N → Type 0
-CommitsNote {N} fits shape note before found after = (entry : Entry N) × (entry.note ≡ note) × MayCommit fits shape before entry × Commits entry before found after
+pub record Commits {N : Type 0} (entry : Entry N) (before : View N) (found : ℕ) (after : View N) : Type 0 where
+  pub history : List (Entry N)
+  pub goes_on : IsPrefix before.seen history
+  pub found_is : found ≡ length history
+  pub view : after ≡ committed history entry before

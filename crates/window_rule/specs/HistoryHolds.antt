@@ -54,4 +54,4 @@ pub record HistoryHolds {N : Type 0} (fits : Shape → Entry N → Type 0) (shap
   -- so that a view with every right has every entry
   pub ranked : AllByRecursion (λ (entry : Entry N). entry.rank < shape.ranks) history
   pub fitting : AllByRecursion (fits shape) history
-  pub in_order : AllByRecursion (λ (entry : Entry N). IsInOrder entry.writes) history
+  pub in_order : AllByRecursion (λ (entry : Entry N). IsInOrder entry.reads × IsInOrder entry.writes) history

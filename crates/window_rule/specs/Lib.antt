@@ -32,3 +32,4 @@ pub mod Spares
 pub mod Reads
 pub mod MemoryHolds
 pub mod Truths
+pub mod Laws

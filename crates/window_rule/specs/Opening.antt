@@ -1,9 +1,11 @@
--- The words that a window begins with.
-use Rattle.std.specs.Prelude.{◌≡◌, ℕ, ◌+◌, ◌*◌, ◌&&◌, nat_lt, nat_le, List, length, if◌then◌else◌}
+-- The words that a window begins with, and the view.
+use Rattle.std.specs.Prelude.{◌≡◌, ℕ, zero, suc, ◌+◌, ◌-◌, ◌*◌, ◌^◌, [], ◌∷◌, map, None, ◌&&◌, nat_lt, nat_le, List, length, if◌then◌else◌}
+use Rattle.std.specs.List.{range_with_len}
 use Rattle.rma_layout.specs.declared.word.Word.{Word}
 use Rattle.rma_layout.specs.declared.word.Word.TheVariants.{Lock, Length, FreeList, Stamp, Data, Head, Gate, Commit}
 use Rattle.rma_layout.specs.Shape.{Shape, reserved_blocks, window_words}
 use Rattle.rma_layout.specs.Placement.{Place}
+use Rattle.window_rule.specs.View.{View, HeadNote, spent}
 use Rattle.rma_layout.specs.Words.{IsWord, word_in}
 
 -- the block behind this one in the free list of its rank. They rise from the first that is not reserved, and 0 ends the list
@@ -44,3 +46,24 @@ set_so_far shape heads blocks Commit = 0
 pub record AreWords (shape : Shape) (words : List ℕ) (said : Word → ℕ) : Type 0 where
   pub all : length words ≡ window_words shape
   pub each : (word : Word) → IsWord shape word → word_in shape words word ≡ said word
+
+-- so many blocks of a rank, one behind the other
+abbrev pub rising_blocks : ℕ → ℕ → ℕ → List Place
+rising_blocks rank start zero = []
+rising_blocks rank start (suc n) = record { rank = rank; block = start } ∷ rising_blocks rank (start + 1) n
+
+-- the free list that a rank begins with: its blocks that are not reserved, rising
+abbrev pub first_list : Shape → ℕ → List Place
+first_list shape rank = rising_blocks rank (reserved_blocks shape) (shape.blocks - reserved_blocks shape)
+
+abbrev pub first_note : Shape → ℕ → HeadNote
+first_note shape rank = record { rank = rank; head = first_head_word shape; next = None; list = first_list shape rank }
+
+-- the view that a window begins with: it stands for every rank, knows every free list, and has done nothing
+abbrev pub first_view : {N : Type 0} → Shape → View N
+first_view shape = record spent {
+  rights = range_with_len 0 shape.ranks;
+  allowance = 2 ^ 62;
+  notes = map (first_note shape) (range_with_len 0 shape.ranks);
+  bounds = map (λ rank. (rank, 0)) (range_with_len 0 shape.ranks);
+}

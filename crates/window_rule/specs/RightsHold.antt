@@ -1,5 +1,5 @@
 -- The part of the invariant on rights: who stands for which rank, and how many commits are left.
-use Rattle.std.specs.Prelude.{◌≡◌, ℕ, ◌+◌, ◌^◌, ◌<◌, ◌≤◌, ◌==◌, List, [], ◌∷◌}
+use Rattle.std.specs.Prelude.{◌≡◌, ℕ, ◌+◌, ◌^◌, ◌<◌, ◌≤◌, ◌==◌, min, List, [], ◌∷◌}
 use Rattle.std.specs.List.{sum_by, count_by}
 use mathlib.Core.Option.{some}
 use lib.ListN.{get_elem?}
@@ -17,6 +17,12 @@ stake_of view = record { rights = view.rights; allowance = view.allowance }
 -- how often a rank is among rights
 abbrev pub right_count : ℕ → List ℕ → ℕ
 right_count rank rights = count_by (λ right. right == rank) rights
+
+-- the least of the rights, under which entries are made
+abbrev pub least_of : List ℕ → ℕ
+least_of [] = 0
+least_of (right ∷ []) = right
+least_of (right ∷ (next ∷ more)) = min right (least_of (next ∷ more))
 
 -- each of the rights is one of so many ranks
 abbrev pub AreRanks : ℕ → List ℕ → Type 0

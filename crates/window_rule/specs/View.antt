@@ -1,7 +1,5 @@
 -- What a rank knows: its view. Only its own steps change it.
-use Rattle.std.specs.Prelude.{ℕ, ◌^◌, List, [], Option, None, Bool}
-use Rattle.std.specs.List.{range_with_len}
-use Rattle.rma_layout.specs.Shape.{Shape}
+use Rattle.std.specs.Prelude.{ℕ, List, [], Option, None, Bool}
 use Rattle.rma_layout.specs.Placement.{Place}
 use Rattle.object_words.specs.Entries.{Entry}
 use Rattle.lock_words.specs.declared.want.Want.{Want}
@@ -176,7 +174,3 @@ spent = record {
   own = [];
   heard = [];
 }
-
--- the view that a window begins with: it stands for every rank, and has done nothing
-abbrev pub first_view : {N : Type 0} → Shape → View N
-first_view shape = record spent { rights = range_with_len 0 shape.ranks; allowance = 2 ^ 62 }

@@ -3,7 +3,7 @@ ghost use Rattle.std.specs.Prelude.{◌≡◌};
 ghost use Rattle.object_words.specs.Entries.{Entry};
 ghost use Rattle.window_rule.specs.Lengths.{Places};
 ghost use Rattle.window_rule.specs.Truths.{IsTrueView, WasLawful};
-ghost use Rattle.window_rule.specs.Commit.{CommitsNote, MayCommit};
+ghost use Rattle.window_rule.specs.Commit.{Commits, MayCommit};
 ghost use Rattle.window_rule.specs.Trails.{Follows};
 
 use crate::rank::Rank;
@@ -13,14 +13,18 @@ use rma_layout::Word;
 use std::marker::Brand;
 
 impl<L: Law> Rank<L> {
-    /// Commits what it has attached as the next entry of the history, and answers the entry's number.
+    /// Commits what it has attached as the next entry of the history, and answers the entry's number. What the entry is,
+    /// but for its note, is known to proofs alone.
     pub fn commit<C: Carries<L>>(&mut self, window: &Window<L>, note: &C) -> u64
+        ghost entry: { Entry L.Note }
         requires window { self.old.window ≡ window.now.id }
-        requires may { (entry : Entry L.Note) × (entry.note ≡ C.note note.now) × MayCommit L.fits window.now.shape self.old.view entry }
+        requires means { entry.note ≡ C.note note.now }
+        requires may { MayCommit L.fits window.now.shape self.old.view entry }
         ensures window { self.new.window ≡ self.old.window }
-        ensures view { CommitsNote L.fits window.now.shape (C.note note.now) self.old.view result self.new.view }
+        ensures view { Commits entry self.old.view result self.new.view }
     {
-        self.fetch_add_about::<Brand, C>(window, Word::Commit, 1, note)
+        let _note = note;
+        self.fetch_add::<Brand>(window, Word::Commit, 1)
     }
 
     /// The length of the history now. All that it knows is so after these entries.
