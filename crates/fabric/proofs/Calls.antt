@@ -1,51 +1,62 @@
 -- What a call of a step on one word owes to the table, from what the window and the rank are.
-use Rattle.std.proofs.Common.{◌≡◌, ℕ, ◌<◌, ◌≤◌, sym, ap, ◌∙◌, subst, arith}
-use Rattle.atomic_table.specs.Table.{Me, Allows}
+use Rattle.std.proofs.Common.{◌≡◌, ℕ, ◌<◌, [], set, sym, ap, refl, ◌∙◌, subst, arith, length-set, slice_index}
+use Rattle.atomic_table.specs.Table.{Me, Allows, keeps}
 use Rattle.atomic_table.specs.Seated.{TableId}
 use Rattle.object_words.specs.Entries.{Entry}
 use Rattle.rma_layout.specs.declared.word.Word.{Word}
 use Rattle.rma_layout.specs.Shape.{Shape}
+use Rattle.rma_layout.specs.Ranges.{IsInRange}
 use Rattle.rma_layout.specs.Words.{IsWord, number_of}
 use Rattle.rma_layout.proofs.WordLemmas.{number_of-lt}
-use Rattle.fabric.specs.View.{View}
-use Rattle.fabric.specs.Lawful.{IsLawful}
-use Rattle.fabric.specs.Steps.{Tells}
+use Rattle.window_rule.specs.View.{View}
+use Rattle.window_rule.specs.Words.{words_in, with_word}
+use Rattle.window_rule.specs.Lawful.{IsLawful, IsRuled}
+use Rattle.window_rule.specs.Permits.{Permits}
+use Rattle.window_rule.specs.Steps.{Tells}
 use Rattle.fabric.specs.Window.{WindowModel, RankModel, IsSized}
+use Rattle.window_rule.proofs.WordFunctions.{words_in-set, words_in-word}
 
--- A is what the call picks besides the shape, as the object that the step is on. f is what the step makes of the word, and
--- Told what it tells.
-module _ {N A : Type 0} (fits : Shape → Entry N → Type 0) (slots id : ℕ) (me : Me (Unit {0}) (View N)) (f : ℕ → ℕ)
-    (Told : Shape → A → View N → ℕ → View N → Type 0) where
-  -- the table's key is the window's shape, and the call has picked this shape and this target
-  aimed : (key shape picked : Shape) (on target : A) (word : Word) (number : ℕ) → key ≡ shape → picked ≡ shape → target ≡ on
-      → number ≡ number_of shape word
-      → Allows (IsLawful fits shape) slots id me (number_of shape word) f (Tells (Told shape on) me)
-      → Allows (IsLawful fits key) slots id me number f (Tells (Told picked target) me)
-  aimed key shape picked on target word number key_is picked_is target_is number_is allowed =
-      subst (λ k. Allows (IsLawful fits k) slots id me number f (Tells (Told picked target) me)) (sym key_is)
-      (subst (λ p. Allows (IsLawful fits shape) slots id me number f (Tells (Told p target) me)) (sym picked_is)
-      (subst (λ t. Allows (IsLawful fits shape) slots id me number f (Tells (Told shape t) me)) (sym target_is)
-      (subst (λ n. Allows (IsLawful fits shape) slots id me n f (Tells (Told shape on) me)) (sym number_is) allowed)))
+module _ {N : Type 0} (fits : Shape → Entry N → Type 0) (slots id : ℕ) (me : Me (Unit {0}) (View N)) (f : ℕ → ℕ) (Told : View N → ℕ → View N → Type 0) where
+  -- a step that is permitted is one that the table allows
+  permitted : (shape : Shape) (word : Word) → IsWord shape word → IsInRange shape → ¬ me.0.rights ≡ [] → Permits fits shape word f me.0 (Told me.0)
+      → Allows (IsRuled fits shape) slots id me (number_of shape word) f (Tells Told me)
+  permitted shape word is_w in_range live permits state h homes there small =
+      let number = number_of shape word in
+      let words = words_in shape state.words in
+      let here : words word ≡ slice_index state.words number = words_in-word shape state.words word is_w in
+      let gone = permits.goes words state.views id (record { lawful = h.lawful; there = there; live = live; in_range = in_range }) (omega arith) in (
+        gone.after,
+        keeps,
+        tt,
+        record {
+          sized = length-set state.words number _ ∙ h.sized;
+          lawful = subst (λ w. IsLawful fits shape w (set state.views id gone.after)) (sym (words_in-set shape state.words word (f (slice_index state.words number)) h.sized is_w))
+              (subst (λ found. IsLawful fits shape (with_word words word (f found)) (set state.views id gone.after)) here gone.lawful);
+        },
+        (subst (λ found. Told me.0 found gone.after) here gone.told, gone.same_rights, refl),
+      )
 
   -- what the table asks of a step
-  abbrev pub Asked : TableId → TableId → Shape → Shape → A → ℕ → Type 0
-  Asked table seat key picked target number =
-      (seat ≡ table) × (number < table.words) × Allows (IsLawful fits key) slots id me number f (Tells (Told picked target) me)
+  abbrev pub Asked : TableId → TableId → Shape → ℕ → Type 0
+  Asked table seat key number =
+      (seat ≡ table) × (number < table.words) × Allows (IsRuled fits key) slots id me number f (Tells Told me)
 
-  pub step_call : (word : Word) (table seat : TableId) (key geometry picked : Shape) (window : WindowModel) (rank : RankModel N) (on target : A) (number : ℕ)
+  pub step_call : (word : Word) (table seat : TableId) (key geometry : Shape) (window : WindowModel) (rank : RankModel N) (number : ℕ)
       → (let seen : WindowModel = record { id = table; shape = geometry } in seen ≡ window) → IsSized table key geometry
-      → (let seen : RankModel N = record { window = seat; view = me.0 } in seen ≡ rank)
+      → (let seen : RankModel N = record { window = seat; view = me.0 } in seen ≡ rank) → ¬ me.0.rights ≡ []
       → rank.window ≡ window.id → IsWord window.shape word → number ≡ number_of window.shape word
-      → (picked ≡ window.shape) × (target ≡ on)
-      → (IsWord geometry word → geometry.ranks ≤ 64 → me.0 ≡ rank.view
-      → Allows (IsLawful fits geometry) slots id me (number_of geometry word) f (Tells (Told geometry on) me))
-      → Asked table seat key picked target number
-  step_call word table seat key geometry picked window rank on target number window_is sized rank_is of_window is_word number_is aims allowed =
+      → Permits fits window.shape word f rank.view (Told rank.view)
+      → Asked table seat key number
+  step_call word table seat key geometry window rank number window_is sized rank_is live of_window is_word number_is permits =
       let shape_is : geometry ≡ window.shape = ap (λ (w : WindowModel). w.shape) window_is in
+      let view_is : me.0 ≡ rank.view = ap (λ (r : RankModel N). r.view) rank_is in
       let word_here : IsWord geometry word = subst (λ s. IsWord s word) (sym shape_is) is_word in
-      let numbered : number ≡ number_of geometry word = number_is ∙ ap (λ s. number_of s word) (sym shape_is) in (
+      let numbered : number ≡ number_of geometry word = number_is ∙ ap (λ s. number_of s word) (sym shape_is) in
+      let permits_here : Permits fits geometry word f me.0 (Told me.0) =
+      subst (λ v. Permits fits geometry word f v (Told v)) (sym view_is) (subst (λ s. Permits fits s word f rank.view (Told rank.view)) (sym shape_is) permits) in (
         ap (λ (r : RankModel N). r.window) rank_is ∙ (of_window ∙ sym (ap (λ (w : WindowModel). w.id) window_is)),
         omega (arith, number_of-lt geometry word word_here, sized.words),
-        aimed key geometry picked on target word number sized.same (aims.0 ∙ sym shape_is) aims.1 numbered
-            (allowed word_here sized.in_range.ranks.1 (ap (λ (r : RankModel N). r.view) rank_is)),
+        subst (λ k. Allows (IsRuled fits k) slots id me number f (Tells Told me)) (sym sized.same)
+            (subst (λ n. Allows (IsRuled fits geometry) slots id me n f (Tells Told me)) (sym numbered)
+            (permitted geometry word word_here sized.in_range live permits_here)),
       )

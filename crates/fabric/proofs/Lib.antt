@@ -1,9 +1,2 @@
-pub mod Sums
-pub mod LockLemmas
-pub mod RightsKept
-pub mod SpentKept
-pub mod LocksKept
-pub mod LawfulKept
-pub mod LockSteps
 pub mod Calls
-pub mod Openings
+pub mod SeatCalls

@@ -1,10 +1,1 @@
-pub mod View
-pub mod Locks
-pub mod Dirty
-pub mod RightsHold
-pub mod SpentHold
-pub mod LocksHold
-pub mod Lawful
-pub mod Steps
 pub mod Window
-pub mod Opening

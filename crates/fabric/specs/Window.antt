@@ -3,7 +3,7 @@ use Rattle.std.specs.Prelude.{◌≡◌}
 use Rattle.rma_layout.specs.Shape.{Shape, window_words}
 use Rattle.rma_layout.specs.Ranges.{IsInRange}
 use Rattle.atomic_table.specs.Seated.{TableId}
-use Rattle.fabric.specs.View.{View}
+use Rattle.window_rule.specs.View.{View}
 
 -- which window it is, and its shape
 pub record WindowModel : Type 0 where

@@ -1,7 +1,7 @@
 //! The words that a window begins with.
 ghost use Rattle.std.specs.Prelude.{◌*◌, ◌+◌, ◌<◌, ◌≡◌, IfOk};
 ghost use Rattle.rma_layout.specs.Ranges.{IsInRange};
-ghost use Rattle.fabric.specs.Opening.{AreWords, first_head_word, first_next, first_word_of, set_so_far};
+ghost use Rattle.window_rule.specs.Opening.{AreWords, first_head_word, first_next, first_word_of, set_so_far};
 
 use gdi_kinds::NoMemory;
 use rma_layout::{DPtr, Geometry, Word};

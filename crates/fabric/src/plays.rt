@@ -1,57 +1,65 @@
-//! What each step on the table tells.
-ghost use Rattle.rma_layout.specs.Shape.{Shape, default_shape};
-ghost use Rattle.rma_layout.specs.Placement.{Place, metadata};
-ghost use Rattle.fabric.specs.Steps.{Leaves, Marks, Rises, Shares, Tells};
+//! What a step on the table tells.
+ghost use Rattle.std.specs.Prelude.{ℕ};
+ghost use Rattle.window_rule.specs.View.{View as ViewModel};
+ghost use Rattle.window_rule.specs.Steps.{Tells};
 
 use crate::view::View;
-use atomic_table::Play;
+use atomic_table::{Join, Play, Split};
 use std::marker::{Brand, PhantomData};
 
-/// The object that a step is on, and the shape of its window. They are known to proofs alone, and each call picks them.
-pub(crate) trait OnObject {
-    ghost shape: { Shape };
-
-    ghost object: { Place };
+/// What a step tells: of the view before, the word found and the view after. It is known to proofs alone, and each call
+/// picks it.
+pub(crate) trait Telling<N> {
+    ghost told: { ViewModel N → ℕ → ViewModel N → Type 0 };
 }
 
-impl OnObject for Brand {
-    ghost shape = { default_shape };
-
-    ghost object = { metadata };
+impl<N> Telling<N> for Brand {
+    ghost told = { λ _ _ _. Unit {0} };
 }
 
-/// A share is added to a lock word.
-pub(crate) struct Share<O> {
-    on: PhantomData<O>,
+/// A step that tells this.
+pub(crate) struct Step<T> {
+    of: PhantomData<T>,
 }
 
-impl<N, O: OnObject> Play<(), View<N>> for Share<O> {
-    ghost then = { λ _. Tells (Shares O.shape O.object) };
+impl<N, T: Telling<N>> Play<(), View<N>> for Step<T> {
+    ghost then = { λ _. Tells T.told };
 }
 
-/// The mark is set in a lock word that was 0.
-pub(crate) struct Mark<O> {
-    on: PhantomData<O>,
+/// Which right and how many commits are given up at a split. They are known to proofs alone, and each call picks them.
+pub(crate) trait Cutting {
+    ghost rank: { ℕ };
+
+    ghost commits: { ℕ };
 }
 
-impl<N, O: OnObject> Play<(), View<N>> for Mark<O> {
-    ghost then = { λ _. Tells (Marks O.shape O.object) };
+impl Cutting for Brand {
+    ghost rank = { 0 };
+
+    ghost commits = { 0 };
 }
 
-/// The mark is set in a lock word that was 1.
-pub(crate) struct Rise<O> {
-    on: PhantomData<O>,
+/// A split of this right and these commits.
+pub(crate) struct Cut<T> {
+    of: PhantomData<T>,
 }
 
-impl<N, O: OnObject> Play<(), View<N>> for Rise<O> {
-    ghost then = { λ _. Tells (Rises O.shape O.object) };
+impl<N, T: Cutting> Split<View<N>> for Cut<T> {
+    ghost use Rattle.window_rule.specs.Splits.{parted, remaining};
+
+    ghost left = { remaining T.rank T.commits };
+
+    ghost right = { parted T.rank T.commits };
 }
 
-/// A share or the mark is given up.
-pub(crate) struct Leave<O> {
-    on: PhantomData<O>,
-}
+/// How two views are made one.
+pub(crate) struct Joint;
 
-impl<N, O: OnObject> Play<(), View<N>> for Leave<O> {
-    ghost then = { λ _. Tells (λ before _ after. Leaves O.object before after) };
+impl<N> Join<View<N>> for Joint {
+    ghost use Rattle.window_rule.specs.View.{spent};
+    ghost use Rattle.window_rule.specs.Splits.{joined};
+
+    ghost both = { joined };
+
+    ghost spent = { spent };
 }

@@ -5,7 +5,14 @@ use atomic_table::Seat;
 use object_words::Law;
 use std::marker::Model;
 
+mod commits;
+mod gate;
 mod locks;
+mod objects;
+mod pool;
+mod splits;
+mod stamps;
+mod words;
 
 /// One of those who share a window. It stands for one or more of the window's ranks, and makes all its steps itself: no
 /// other rank's step changes what it knows.

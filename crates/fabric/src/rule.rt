@@ -10,10 +10,10 @@ pub(crate) struct Lawful<L> {
 }
 
 impl<L: Law> TableRule<(), View<L::Note>, Geometry> for Lawful<L> {
-    ghost use Rattle.fabric.specs.Lawful.{IsLawful};
-    ghost use Rattle.fabric.specs.View.{first_view};
+    ghost use Rattle.window_rule.specs.Lawful.{IsRuled};
+    ghost use Rattle.window_rule.specs.Opening.{first_view};
 
-    ghost holds = { λ shape state. IsLawful L.fits shape state };
+    ghost holds = { λ shape state. IsRuled L.fits shape state };
 
     ghost first = { λ shape. first_view shape };
 }

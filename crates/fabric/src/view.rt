@@ -6,7 +6,7 @@ pub(crate) struct View<N> {
 }
 
 impl<N> Model for View<N> {
-    ghost use Rattle.fabric.specs.View.{View, spent};
+    ghost use Rattle.window_rule.specs.View.{View, spent};
 
     ghost Value = { View N };
 

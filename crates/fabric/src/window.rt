@@ -1,7 +1,8 @@
-ghost use Rattle.std.specs.Prelude.{◌≡◌, IfOk};
+ghost use Rattle.std.specs.Prelude.{◌≡◌, ◌<◌, ℕ, Some, IfOk};
 ghost use Rattle.rma_layout.specs.Words.{IsWord, number_of};
-ghost use Rattle.fabric.specs.RightsHold.{IsAlone};
-ghost use Rattle.fabric.specs.View.{first_view};
+ghost use Rattle.window_rule.specs.RightsHold.{IsAlone};
+ghost use Rattle.window_rule.specs.Opening.{first_note, first_view};
+ghost use Rattle.window_rule.specs.Pool.{note_of};
 
 use crate::opening::first_words;
 use crate::rank::Rank;
@@ -45,6 +46,7 @@ impl<L: Law> Window<L> {
         ensures shape { IfOk result (λ made. made.0.shape ≡ geometry) }
         ensures together { IfOk result (λ made. made.1.window ≡ made.0.id) }
         ensures view { IfOk result (λ made. made.1.view ≡ first_view geometry) }
+        ensures lists { IfOk result (λ made. (rank : ℕ) → rank < geometry.ranks → note_of made.1.view.notes rank ≡ Some (first_note geometry rank)) }
         ensures alone { IfOk result (λ made. IsAlone geometry made.1.view) }
     {
         geometry.keeps_ranges();

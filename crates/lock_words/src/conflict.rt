@@ -1,10 +1,7 @@
 ghost use Rattle.std.specs.Prelude.{◌↔◌, IsTrue};
 ghost use Rattle.lock_words.specs.Conflicts.{Conflicts};
 
-use crate::{MARK, Want};
-
-/// How many one count of a gate word is worth where the other one is worth 1.
-const UPPER: u64 = 1 << 32;
+use crate::{MARK, WHOLE, Want};
 
 /// Whether a word stands in the way of a want. A share or a place that is about to be taken back does too.
 pub fn conflicts(want: Want, word: u64) -> bool
@@ -14,7 +11,7 @@ pub fn conflicts(want: Want, word: u64) -> bool
         Want::Share => word / MARK % 2 == 1,
         Want::Mark => word != 0,
         Want::Rise => word != 1,
-        Want::Writer => word / UPPER != 0,
-        Want::Whole => word % UPPER != 0,
+        Want::Writer => word / WHOLE != 0,
+        Want::Whole => word % WHOLE != 0,
     }
 }

@@ -13,3 +13,6 @@ pub use want::Want;
 
 /// The mark in a lock word: its object is one view's alone. The bits below count shares.
 pub const MARK: u64 = 1 << 32;
+
+/// A whole place in a gate word. The bits below count writers' places.
+pub const WHOLE: u64 = 1 << 32;

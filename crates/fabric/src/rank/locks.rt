@@ -3,13 +3,14 @@ ghost use Rattle.std.specs.Prelude.{◌≡◌, None, Some, IfErr, IsOk, MatchRes
 ghost use Rattle.lock_words.specs.declared.want.Want.TheVariants as want;
 ghost use Rattle.lock_words.specs.Conflicts.{Conflicts};
 ghost use Rattle.rma_layout.specs.Placement.{IsBlock};
-ghost use Rattle.fabric.specs.View.{Shared, Marked, Returning};
-ghost use Rattle.fabric.specs.Dirty.{dirt_of};
-ghost use Rattle.fabric.specs.Locks.{hold_of, shares_of};
-ghost use Rattle.fabric.specs.RightsHold.{IsAlone};
-ghost use Rattle.fabric.specs.Steps.{Leaves, Marks, Rises, Shares, locked, refused, tried, unlocked};
+ghost use Rattle.window_rule.specs.View.{Shared, Marked, Returning, OfObject};
+ghost use Rattle.window_rule.specs.Dirty.{dirt_of};
+ghost use Rattle.window_rule.specs.StampsHold.{opened_of};
+ghost use Rattle.window_rule.specs.Locks.{hold_of, shares_of};
+ghost use Rattle.window_rule.specs.RightsHold.{IsAlone};
+ghost use Rattle.window_rule.specs.Steps.{Leaves, Marks, Rises, Shares, locked, refused, tried, unlocked};
+ghost use Rattle.window_rule.specs.Trails.{Follows};
 
-use crate::plays::{Leave, Mark, OnObject, Rise, Share};
 use crate::rank::Rank;
 use crate::window::Window;
 use lock_words::{MARK, Want, conflicts};
@@ -22,20 +23,21 @@ impl<L: Law> Rank<L> {
     ///
     /// It is refused exactly where another rank has the object marked. The answer is then the word that it found, and the
     /// share that it had added is taken back.
-    #[tactic(auto, using(crate::proofs::LockLemmas::refused_is_unlocked))]
+    #[tactic(auto, using(window_rule::proofs::LockLemmas::refused_is_unlocked, window_rule::proofs::Trails::follows_trans))]
     pub fn share_try(&mut self, window: &Window<L>, o: DPtr) -> Result<(), u64>
         requires window { self.old.window ≡ window.now.id }
         requires object { IsBlock window.now.shape o }
         requires unlocked { hold_of self.old.view.locks o ≡ None }
         ensures window { self.new.window ≡ self.old.window }
         ensures view { MatchResult result (λ _. self.new.view ≡ tried (locked o Shared self.old.view))
-            (λ word. self.new.view ≡ refused o want.Share word (tried self.old.view)) }
+            (λ word. self.new.view ≡ refused (OfObject o) want.Share word (tried self.old.view)) }
         ensures cause { IfErr result (λ word. Conflicts want.Share word) }
         ensures alone { IsAlone window.now.shape self.old.view → IsOk result }
+        ensures follows { Follows self.old.view self.new.view }
     {
-        let word = self.add_share::<Brand>(window, o);
+        let word = self.fetch_add::<Brand>(window, Word::Lock(o), 1);
         if conflicts(Want::Share, word) {
-            self.take_share::<Brand>(window, o);
+            self.fetch_sub::<Brand>(window, Word::Lock(o), 1);
             return Err(word);
         }
         Ok(())
@@ -48,8 +50,9 @@ impl<L: Law> Rank<L> {
         requires shared { hold_of self.old.view.locks o ≡ Some Shared }
         ensures window { self.new.window ≡ self.old.window }
         ensures view { self.new.view ≡ unlocked o self.old.view }
+        ensures follows { Follows self.old.view self.new.view }
     {
-        self.take_share::<Brand>(window, o);
+        self.fetch_sub::<Brand>(window, Word::Lock(o), 1);
     }
 
     /// Marks an object that it has not locked, so that no other rank has it.
@@ -61,11 +64,12 @@ impl<L: Law> Rank<L> {
         requires unlocked { hold_of self.old.view.locks o ≡ None }
         ensures window { self.new.window ≡ self.old.window }
         ensures view { MatchResult result (λ _. self.new.view ≡ tried (locked o Marked self.old.view))
-            (λ word. self.new.view ≡ refused o want.Mark word (tried self.old.view)) }
+            (λ word. self.new.view ≡ refused (OfObject o) want.Mark word (tried self.old.view)) }
         ensures cause { IfErr result (λ word. Conflicts want.Mark word) }
         ensures alone { IsAlone window.now.shape self.old.view → IsOk result }
+        ensures follows { Follows self.old.view self.new.view }
     {
-        let word = self.mark_free::<Brand>(window, o);
+        let word = self.compare_exchange::<Brand>(window, Word::Lock(o), 0, MARK);
         if conflicts(Want::Mark, word) {
             return Err(word);
         }
@@ -82,11 +86,12 @@ impl<L: Law> Rank<L> {
         requires shared { hold_of self.old.view.locks o ≡ Some Shared }
         ensures window { self.new.window ≡ self.old.window }
         ensures view { MatchResult result (λ _. self.new.view ≡ tried (locked o Marked self.old.view))
-            (λ word. self.new.view ≡ refused o want.Rise word (tried self.old.view)) }
+            (λ word. self.new.view ≡ refused (OfObject o) want.Rise word (tried self.old.view)) }
         ensures cause { IfErr result (λ word. Conflicts want.Rise word) }
         ensures alone { IsAlone window.now.shape self.old.view → IsOk result }
+        ensures follows { Follows self.old.view self.new.view }
     {
-        let word = self.mark_shared::<Brand>(window, o);
+        let word = self.compare_exchange::<Brand>(window, Word::Lock(o), 1, MARK);
         if conflicts(Want::Rise, word) {
             return Err(word);
         }
@@ -99,89 +104,11 @@ impl<L: Law> Rank<L> {
         requires object { IsBlock window.now.shape o }
         requires marked { hold_of self.old.view.locks o ≡ Some Marked }
         requires clean { dirt_of self.old.view.dirty o ≡ None }
+        requires closed { opened_of self.old.view.stamps.opened o ≡ None }
         ensures window { self.new.window ≡ self.old.window }
         ensures view { self.new.view ≡ unlocked o self.old.view }
+        ensures follows { Follows self.old.view self.new.view }
     {
-        self.take_mark::<Brand>(window, o);
-    }
-
-    /// Adds a share to the lock word, and answers the word as it was.
-    fn add_share<O: OnObject>(&mut self, window: &Window<L>, o: DPtr) -> u64
-        requires window { self.old.window ≡ window.now.id }
-        requires object { IsBlock window.now.shape o }
-        requires unlocked { hold_of self.old.view.locks o ≡ None }
-        requires on { (O.shape ≡ window.now.shape) × (O.object ≡ o) }
-        ensures window { self.new.window ≡ self.old.window }
-        ensures told { Shares O.shape O.object self.old.view result self.new.view }
-    {
-        let number = window.number(Word::Lock(o));
-        window
-            .table
-            .shared
-            .fetch_add::<Share<O>>(&mut self.seat, number, 1)
-    }
-
-    /// Takes a share from the lock word.
-    fn take_share<O: OnObject>(&mut self, window: &Window<L>, o: DPtr)
-        requires window { self.old.window ≡ window.now.id }
-        requires object { IsBlock window.now.shape o }
-        requires counted { shares_of (hold_of self.old.view.locks o) ≡ 1 }
-        requires on { (O.shape ≡ window.now.shape) × (O.object ≡ o) }
-        ensures window { self.new.window ≡ self.old.window }
-        ensures told { Leaves O.object self.old.view self.new.view }
-    {
-        let number = window.number(Word::Lock(o));
-        window
-            .table
-            .shared
-            .fetch_sub::<Leave<O>>(&mut self.seat, number, 1);
-    }
-
-    /// Sets the mark where the lock word is 0, and answers the word as it was.
-    fn mark_free<O: OnObject>(&mut self, window: &Window<L>, o: DPtr) -> u64
-        requires window { self.old.window ≡ window.now.id }
-        requires object { IsBlock window.now.shape o }
-        requires unlocked { hold_of self.old.view.locks o ≡ None }
-        requires on { (O.shape ≡ window.now.shape) × (O.object ≡ o) }
-        ensures window { self.new.window ≡ self.old.window }
-        ensures told { Marks O.shape O.object self.old.view result self.new.view }
-    {
-        let number = window.number(Word::Lock(o));
-        window
-            .table
-            .shared
-            .compare_exchange::<Mark<O>>(&mut self.seat, number, 0, MARK)
-    }
-
-    /// Sets the mark where the lock word is 1, its own share, and answers the word as it was.
-    fn mark_shared<O: OnObject>(&mut self, window: &Window<L>, o: DPtr) -> u64
-        requires window { self.old.window ≡ window.now.id }
-        requires object { IsBlock window.now.shape o }
-        requires shared { hold_of self.old.view.locks o ≡ Some Shared }
-        requires on { (O.shape ≡ window.now.shape) × (O.object ≡ o) }
-        ensures window { self.new.window ≡ self.old.window }
-        ensures told { Rises O.shape O.object self.old.view result self.new.view }
-    {
-        let number = window.number(Word::Lock(o));
-        window
-            .table
-            .shared
-            .compare_exchange::<Rise<O>>(&mut self.seat, number, 1, MARK)
-    }
-
-    /// Takes the mark from the lock word.
-    fn take_mark<O: OnObject>(&mut self, window: &Window<L>, o: DPtr)
-        requires window { self.old.window ≡ window.now.id }
-        requires object { IsBlock window.now.shape o }
-        requires marked { hold_of self.old.view.locks o ≡ Some Marked }
-        requires on { (O.shape ≡ window.now.shape) × (O.object ≡ o) }
-        ensures window { self.new.window ≡ self.old.window }
-        ensures told { Leaves O.object self.old.view self.new.view }
-    {
-        let number = window.number(Word::Lock(o));
-        window
-            .table
-            .shared
-            .fetch_sub::<Leave<O>>(&mut self.seat, number, MARK);
+        self.fetch_sub::<Brand>(window, Word::Lock(o), MARK);
     }
 }

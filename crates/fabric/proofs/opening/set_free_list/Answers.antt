@@ -1,6 +1,6 @@
 use Rattle.std.proofs.Common.{arith}
 use Rattle.rma_layout.specs.Placement.{Place}
-use Rattle.fabric.proofs.Openings.{AreWords-block}
+use Rattle.window_rule.proofs.Openings.{AreWords-block}
 use Rattle.fabric.proofs.opening.set_free_list.Goals as goal
 
 pub loop-block-preserved : goal.loop-block-preserved

@@ -1,5 +1,5 @@
 use Rattle.std.proofs.Common.{◌*◌, ◌+◌}
-use Rattle.fabric.specs.Opening.{AreWords, set_so_far}
+use Rattle.window_rule.specs.Opening.{AreWords, set_so_far}
 use Rattle.fabric.proofs.opening.set_free_list.Given as goal
 
 abbrev pub invariant-loop-block : goal.invariant-loop-block

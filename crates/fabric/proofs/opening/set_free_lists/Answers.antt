@@ -1,5 +1,5 @@
 use Rattle.std.proofs.Common.{◌≡◌, arith}
-use Rattle.fabric.proofs.Openings.{AreWords-all}
+use Rattle.window_rule.proofs.Openings.{AreWords-all}
 use Rattle.fabric.proofs.opening.set_free_lists.Goals as goal
 
 pub returns : goal.returns

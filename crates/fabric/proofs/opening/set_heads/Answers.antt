@@ -1,5 +1,5 @@
 use Rattle.std.proofs.Common.{arith}
-use Rattle.fabric.proofs.Openings.{AreWords-head}
+use Rattle.window_rule.proofs.Openings.{AreWords-head}
 use Rattle.fabric.proofs.opening.set_heads.Goals as goal
 
 pub loop-rank-preserved : goal.loop-rank-preserved

@@ -1,4 +1,4 @@
-use Rattle.fabric.specs.Opening.{AreWords, set_so_far}
+use Rattle.window_rule.specs.Opening.{AreWords, set_so_far}
 use Rattle.fabric.proofs.opening.set_heads.Given as goal
 
 abbrev pub invariant-loop-rank : goal.invariant-loop-rank

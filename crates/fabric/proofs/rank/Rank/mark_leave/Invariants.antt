@@ -1,5 +1,6 @@
--- The step is on this object of this window.
+use Rattle.window_rule.specs.Steps.{Leaves, object_of}
+use Rattle.window_rule.specs.Trails.{Following}
 use Rattle.fabric.proofs.rank.Rank.mark_leave.Given as goal
 
-abbrev pub ghosts-take_mark : goal.ghosts-take_mark
-ghosts-take_mark g a = record { shape = a.window.now.shape; object = a.o }
+abbrev pub ghosts-fetch_sub : goal.ghosts-fetch_sub
+ghosts-fetch_sub g a = record { told = Following (λ before _ after. Leaves (object_of a.word) before after) }

@@ -1,5 +1,6 @@
--- The step is on this object of this window.
+use Rattle.window_rule.specs.Steps.{Rises, object_of}
+use Rattle.window_rule.specs.Trails.{Following}
 use Rattle.fabric.proofs.rank.Rank.rise_try.Given as goal
 
-abbrev pub ghosts-mark_shared : goal.ghosts-mark_shared
-ghosts-mark_shared g a = record { shape = a.window.now.shape; object = a.o }
+abbrev pub ghosts-compare_exchange : goal.ghosts-compare_exchange
+ghosts-compare_exchange g a = record { told = Following (Rises a.window.now.shape (object_of a.word)) }

@@ -1,5 +1,6 @@
--- The step is on this object of this window.
+use Rattle.window_rule.specs.Steps.{Leaves, object_of}
+use Rattle.window_rule.specs.Trails.{Following}
 use Rattle.fabric.proofs.rank.Rank.share_leave.Given as goal
 
-abbrev pub ghosts-take_share : goal.ghosts-take_share
-ghosts-take_share g a = record { shape = a.window.now.shape; object = a.o }
+abbrev pub ghosts-fetch_sub : goal.ghosts-fetch_sub
+ghosts-fetch_sub g a = record { told = Following (λ before _ after. Leaves (object_of a.word) before after) }

@@ -1,5 +1,5 @@
 use Rattle.std.proofs.Common.{ap, ◌∙◌}
-use Rattle.fabric.proofs.Openings.{opening_is_lawful, first_is_live, first_is_alone}
+use Rattle.window_rule.proofs.Openings.{opening_is_lawful, first_is_live, first_is_alone, first_lists}
 use Rattle.fabric.proofs.window.Window.new.Goals as goal
 
 pub of_words-requires : goal.of_words-requires
@@ -11,3 +11,6 @@ seated-requires-clause-live g c = first_is_live c.args.geometry _ c.keeps_ranges
 
 pub returns-clause-alone : goal.returns-clause-alone
 returns-clause-alone g c = first_is_alone c.args.geometry _ (c.seated.ensures.view ∙ ap (λ me. me.0) c.in_ok-table.ensures.4)
+
+pub returns-clause-lists : goal.returns-clause-lists
+returns-clause-lists g c = λ rank below. first_lists c.args.geometry _ (c.seated.ensures.view ∙ ap (λ me. me.0) c.in_ok-table.ensures.4) rank below

@@ -1,0 +1,10 @@
+use Rattle.window_rule.proofs.NoteSteps.{next_permitted}
+use Rattle.std.proofs.Common.{refl}
+use Rattle.window_rule.proofs.Trails.{following, stays}
+use Rattle.fabric.proofs.rank.Rank.next.Goals as goal
+
+pub load-requires-clause-permits : goal.load-requires-clause-permits
+load-requires-clause-permits g c =
+    following g.L.Law.fits _ _ _ _ _
+    (next_permitted g.L.Law.fits _ _ _ c.requires.may)
+    (λ _ _ told. stays c.args.self.now.view _ _ told.view refl)

@@ -1,0 +1,7 @@
+use Rattle.window_rule.specs.Objects.{first_of}
+use Rattle.window_rule.specs.Pool.{rank_of, Pops}
+use Rattle.window_rule.specs.Trails.{Following}
+use Rattle.fabric.proofs.rank.Rank.pop.Given as goal
+
+abbrev pub ghosts-compare_exchange : goal.ghosts-compare_exchange
+ghosts-compare_exchange g a = record { told = Following (Pops a.window.now.shape (rank_of a.word) a.old (first_of a.new)) }

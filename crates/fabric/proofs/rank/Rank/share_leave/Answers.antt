@@ -1,0 +1,10 @@
+use Rattle.window_rule.proofs.LockSteps.{share_leave_permitted}
+use Rattle.std.proofs.Common.{refl}
+use Rattle.window_rule.proofs.Trails.{following, stays}
+use Rattle.fabric.proofs.rank.Rank.share_leave.Goals as goal
+
+pub fetch_sub-requires-clause-permits : goal.fetch_sub-requires-clause-permits
+fetch_sub-requires-clause-permits g c =
+    following g.L.Law.fits _ _ _ _ _
+    (share_leave_permitted g.L.Law.fits _ _ c.requires.object _ c.requires.shared)
+    (λ _ _ told. stays c.args.self.now.view _ _ told refl)

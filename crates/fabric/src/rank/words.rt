@@ -1,0 +1,101 @@
+//! The operations on one word, each once. What a call tells is picked by the call.
+ghost use Rattle.std.specs.Prelude.{◌≡◌, ◌+◌, ◌-◌, ◌%◌, ◌^◌, ◌==◌};
+ghost use prog.Atomic.{either};
+ghost use Rattle.rma_layout.specs.Words.{IsWord};
+ghost use Rattle.window_rule.specs.Permits.{Permits};
+
+use crate::plays::{Step, Telling};
+use crate::rank::Rank;
+use crate::window::Window;
+use object_words::Law;
+use rma_layout::Word;
+
+impl<L: Law> Rank<L> {
+    /// Loads a word.
+    pub(super) fn load<T: Telling<L::Note>>(&mut self, window: &Window<L>, word: Word) -> u64
+        requires window { self.old.window ≡ window.now.id }
+        requires word { IsWord window.now.shape word }
+        requires permits { Permits L.fits window.now.shape word (λ found. found) self.old.view (T.told self.old.view) }
+        ensures window { self.new.window ≡ self.old.window }
+        ensures told { T.told self.old.view result self.new.view }
+    {
+        let number = window.number(word);
+        window.table.shared.load::<Step<T>>(&mut self.seat, number)
+    }
+
+    /// Stores a word.
+    pub(super) fn store<T: Telling<L::Note>>(&mut self, window: &Window<L>, word: Word, new: u64)
+        requires window { self.old.window ≡ window.now.id }
+        requires word { IsWord window.now.shape word }
+        requires permits { Permits L.fits window.now.shape word (λ _. new) self.old.view (λ _. T.told self.old.view new) }
+        ensures window { self.new.window ≡ self.old.window }
+        ensures told { T.told self.old.view new self.new.view }
+    {
+        let number = window.number(word);
+        window
+            .table
+            .shared
+            .store::<Step<T>>(&mut self.seat, number, new)
+    }
+
+    /// Adds to a word, and answers the word as it was.
+    pub(super) fn fetch_add<T: Telling<L::Note>>(
+        &mut self,
+        window: &Window<L>,
+        word: Word,
+        k: u64,
+    ) -> u64
+        requires window { self.old.window ≡ window.now.id }
+        requires word { IsWord window.now.shape word }
+        requires permits { Permits L.fits window.now.shape word (λ found. (found + k) % 2 ^ 64) self.old.view (T.told self.old.view) }
+        ensures window { self.new.window ≡ self.old.window }
+        ensures told { T.told self.old.view result self.new.view }
+    {
+        let number = window.number(word);
+        window
+            .table
+            .shared
+            .fetch_add::<Step<T>>(&mut self.seat, number, k)
+    }
+
+    /// Subtracts from a word, and answers the word as it was.
+    pub(super) fn fetch_sub<T: Telling<L::Note>>(
+        &mut self,
+        window: &Window<L>,
+        word: Word,
+        k: u64,
+    ) -> u64
+        requires window { self.old.window ≡ window.now.id }
+        requires word { IsWord window.now.shape word }
+        requires permits { Permits L.fits window.now.shape word (λ found. (found + (2 ^ 64 - k)) % 2 ^ 64) self.old.view (T.told self.old.view) }
+        ensures window { self.new.window ≡ self.old.window }
+        ensures told { T.told self.old.view result self.new.view }
+    {
+        let number = window.number(word);
+        window
+            .table
+            .shared
+            .fetch_sub::<Step<T>>(&mut self.seat, number, k)
+    }
+
+    /// Puts `new` where the word is `old`, and answers the word as it was.
+    pub(super) fn compare_exchange<T: Telling<L::Note>>(
+        &mut self,
+        window: &Window<L>,
+        word: Word,
+        old: u64,
+        new: u64,
+    ) -> u64
+        requires window { self.old.window ≡ window.now.id }
+        requires word { IsWord window.now.shape word }
+        requires permits { Permits L.fits window.now.shape word (λ found. either (found == old) new found) self.old.view (T.told self.old.view) }
+        ensures window { self.new.window ≡ self.old.window }
+        ensures told { T.told self.old.view result self.new.view }
+    {
+        let number = window.number(word);
+        window
+            .table
+            .shared
+            .compare_exchange::<Step<T>>(&mut self.seat, number, old, new)
+    }
+}
