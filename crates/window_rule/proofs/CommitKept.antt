@@ -6,9 +6,9 @@ use mathlib.Core.Option.{some}
 use lib.ListN.{get_elem?}
 use Rattle.rma_layout.specs.Shape.{Shape}
 use Rattle.rma_layout.specs.Placement.{Place, IsBlock}
-use Rattle.object_words.specs.Blocks.{one_if, is_reserved, growth, on_rank as place_on, total_below, needed_blocks}
-use Rattle.object_words.specs.Contents.{content_of, words_at, is_empty, IsInOrder}
-use Rattle.object_words.specs.Entries.{Entry, store_after, HasRoom}
+use Rattle.object_words.specs.Blocks.{one_if, is_reserved, growth, on_rank as place_on, total_below, contents_need}
+use Rattle.object_words.specs.Contents.{content_of, words_at, is_empty, IsByRisingObject}
+use Rattle.object_words.specs.Entries.{Entry, store_after, HasBlocks}
 use Rattle.object_words.proofs.Overlays.{content-overlay}
 use Rattle.object_words.proofs.Histories.{contents_after-push}
 use Rattle.window_rule.specs.View.{View, Dirt}
@@ -29,7 +29,7 @@ total_is_sum zero f = refl
 total_is_sum (suc n) f = ap (λ k. k + f n) (total_is_sum n f)
 
 -- the store after one more entry, object by object
-pub store-push : {N : Type 0} (history : List (Entry N)) (entry : Entry N) (object : Place) → IsInOrder entry.writes
+pub store-push : {N : Type 0} (history : List (Entry N)) (entry : Entry N) (object : Place) → IsByRisingObject entry.writes
     → content_of (store_after (history ++ entry ∷ [])) object ≡ unwrap_or (words_at entry.writes object) (content_of (store_after history) object)
 store-push history entry object h =
     ap (λ c. content_of c object) (contents_after-push [] history entry) ∙ content-overlay (store_after history) entry.writes object h
@@ -75,7 +75,7 @@ stays id j (Some k) ne not e =
     ]
 
 module _ {N : Type 0} (shape : Shape) (history : List (Entry N)) (objects : Objects) (views : List (View N)) (id : ℕ) (before after : View N) (there : get_elem? views id ≡ some before)
-    (entry : Entry N) (in_order : IsInOrder entry.writes) (writes : (object : Place) → words_at entry.writes object ≡ attached_of (dirt_of before.dirty object))
+    (entry : Entry N) (in_order : IsByRisingObject entry.writes) (writes : (object : Place) → words_at entry.writes object ≡ attached_of (dirt_of before.dirty object))
     (attached : (object : Place) (dirt : Dirt) → dirt_of before.dirty object ≡ Some dirt → dirt.attached ≢ None) (clean : after.dirty ≡ [])
     (contents : ContentsAgree shape (store_after history) objects) (dirt : DirtHolds (store_after history) objects (dirts_of views)) where
   abbrev longer : List (Entry N)
@@ -145,7 +145,7 @@ module _ {N : Type 0} (shape : Shape) (history : List (Entry N)) (objects : Obje
       ap (wanted shape object (content_of (store_after history) object)) w
       ∙ (wanted-from shape object (content_of (store_after history) object) one.attached ∙ ap (λ k. need_from shape object k one.attached) (sym h.kept))
 
-  needed_is : (rank : ℕ) → needed_blocks shape (store_after history) entry.writes rank ≡ sum_below shape.blocks (λ b. need_of shape (place_on rank b) (dirt_of before.dirty (place_on rank b)))
+  needed_is : (rank : ℕ) → contents_need shape (store_after history) entry.writes rank ≡ sum_below shape.blocks (λ b. need_of shape (place_on rank b) (dirt_of before.dirty (place_on rank b)))
   needed_is rank =
       let store = store_after history in
       let made = λ (b : ℕ). one_if (not (is_reserved shape b) && is_empty (content_of store (place_on rank b)) && is_some (words_at entry.writes (place_on rank b))) in
@@ -162,6 +162,6 @@ module _ {N : Type 0} (shape : Shape) (history : List (Entry N)) (objects : Obje
   -- so each rank has the blocks that the entry needs
   pub has_room : (rank : ℕ) → sum_below shape.blocks (λ b. chain_length shape (place_on rank b) (content_of (store_after history) (place_on rank b)))
       + sum_below shape.blocks (λ b. need_of shape (place_on rank b) (dirt_of before.dirty (place_on rank b))) ≤ shape.blocks
-      → HasRoom shape (store_after history) entry.writes rank
+      → HasBlocks shape (store_after history) entry.writes rank
   has_room rank enough =
       omega (arith, needed_is rank, total_is_sum shape.blocks (λ b. chain_length shape (place_on rank b) (content_of (store_after history) (place_on rank b))))

@@ -13,9 +13,9 @@ use Rattle.rma_layout.specs.declared.word.Word.TheVariants.{Commit, Gate, Stamp}
 use Rattle.rma_layout.specs.Shape.{Shape}
 use Rattle.rma_layout.specs.Placement.{Place, IsBlock, same_place}
 use Rattle.object_words.specs.Blocks.{on_rank as place_on}
-use Rattle.object_words.specs.Contents.{content_of, Agrees, IsInOrder}
-use Rattle.object_words.specs.Entries.{Entry, store_after, HasRoomOnEach}
-use Rattle.object_words.proofs.Histories.{EachEntry-push}
+use Rattle.object_words.specs.Contents.{content_of, Agrees}
+use Rattle.object_words.specs.Entries.{Entry, store_after, HasBlocksOnEach}
+use Rattle.object_words.proofs.Histories.{legal-push}
 use Rattle.window_rule.specs.View.{View, Dirt}
 use Rattle.window_rule.specs.Locks.{hold_of}
 use Rattle.window_rule.specs.Dirty.{dirt_of}
@@ -233,7 +233,7 @@ module _ {N : Type 0} (fits : Shape → Entry N → Type 0) (shape : Shape) (wor
             sym (let e : known.0.content ≡ content_of (store_after history) object = cc same in e) ∙ known.2
       ]
 
-  room_suffices : HasRoomOnEach shape (store_after history) entry.writes
+  room_suffices : HasBlocksOnEach shape (store_after history) entry.writes
   room_suffices rank below =
       let dirts = dirts_of views in
       let owns = owns_of views in
@@ -255,7 +255,7 @@ module _ {N : Type 0} (fits : Shape → Entry N → Type 0) (shape : Shape) (wor
       (may.room rank below)) in
       let spare = spare_sum (length dirts) asks (λ j. has j + keeps j) id need each (omega (arith, below_length views id before now.there)) mine in
       let sums = sum_below-add (length dirts) has keeps (λ j. has j + keeps j) (λ j. refl) in
-      has_room shape history objects views id before after now.there entry may.in_order.1 may.writes may.attached refl h.contents h.dirt rank
+      has_room shape history objects views id before after now.there entry may.maps.writes may.writes may.attached refl h.contents h.dirt rank
       (used_by_history shape (sizes_in words) (data_in words) (store_after history) objects dirts h.objects h.contents h.dirt h.lie rank 0 owns now.lawful.ground.free now.lawful.ground.owner need below h.blocks (omega arith))
 
   history_holds : HistoryHolds fits shape (commits + 1) longer new_views
@@ -274,13 +274,9 @@ module _ {N : Type 0} (fits : Shape → Entry N → Type 0) (shape : Shape) (wor
           rest = All-push (λ (e : Entry N). is_among e.rank view.rights ≡ false) was.begins.0 entry was.rest (not_theirs j view ne at);
         }) h.history.each;
     heard = EachView-set (past_of {N = N}) views id before after now.there (λ _. AreHeard) (λ _. AreHeard) tt (λ j view ne at was. was) h.history.heard;
-    legal = record {
-      reads = EachEntry-push (λ contents (e : Entry N). Agrees e.reads contents) [] history entry h.history.legal.reads reads_agree;
-      room = EachEntry-push (λ contents (e : Entry N). HasRoomOnEach shape contents e.writes) [] history entry h.history.legal.room room_suffices;
-    };
+    legal = legal-push true shape history entry h.history.legal may.maps reads_agree (λ _. room_suffices);
     fitting = All-push (fits shape) history entry h.history.fitting may.fitting;
     ranked = All-push (λ (e : Entry N). e.rank < shape.ranks) history entry h.history.ranked (among-below entry.rank shape.ranks before.rights rank_in (h.rights.are_ranks id (stake_of before) stake_there));
-    in_order = All-push (λ (e : Entry N). IsInOrder e.reads × IsInOrder e.writes) history entry h.history.in_order may.in_order;
   }
 
   stamps_hold : StampsHold shape (stamps_in words) (commits + 1) now.lawful.ground.opener new_views
@@ -327,15 +323,15 @@ module _ {N : Type 0} (fits : Shape → Entry N → Type 0) (shape : Shape) (wor
     lie = h.lie;
     free = h.free;
     blocks = IsPartition-same shape views id before after now.there now.lawful.ground.free (released_from objects id) now.lawful.ground.owner refl (record { each = λ holder b. ap (times b) (released_part holder) ∙ h.blocks.each holder b; reserved = h.blocks.reserved });
-    contents = contents_agree shape history objects views id before after now.there entry may.in_order.1 may.writes may.attached refl h.contents h.dirt;
-    dirt = dirt_holds shape history objects views id before after now.there entry may.in_order.1 may.writes may.attached refl h.contents h.dirt;
+    contents = contents_agree shape history objects views id before after now.there entry may.maps.writes may.writes may.attached refl h.contents h.dirt;
+    dirt = dirt_holds shape history objects views id before after now.there entry may.maps.writes may.writes may.attached refl h.contents h.dirt;
     holdings = EachView-set (holdings_of {N = N}) views id before after now.there (λ _. AreHeld objects) (λ _. AreHeld (released_from objects id))
         (let was = h.holdings id before now.there in record { read = λ object reading is. ((was.read object reading is).0, refl, (was.read object reading is).2); marked = λ object dirt is. absurd (cc is) })
         (λ j view ne at was. record { read = was.read; marked = was.marked }) h.holdings;
     own = OwnBlocksHold-same shape views id before after now.there (nexts_in words) refl h.own;
     memory = EachView-set (memory_of {N = N}) views id before after now.there (λ _. Remembers shape) (λ _. Remembers shape)
         (λ object known is. let still = still_known fits shape before words views id now.lawful.ground h now.there object known is in
-        (still.0, stored-other shape history objects views id before after now.there entry may.in_order.1 may.writes may.attached refl h.contents h.dirt object ((h.holdings id before now.there).read object known is).1 ∙ still.1))
+        (still.0, stored-other shape history objects views id before after now.there entry may.maps.writes may.writes may.attached refl h.contents h.dirt object ((h.holdings id before now.there).read object known is).1 ∙ still.1))
         (λ j view ne at was. was) h.memory;
     cells = EachView-set (stash_of {N = N}) views id before after now.there (λ _. AreCells (data_in words)) (λ _. AreCells (data_in words))
         (λ block i word has e. h.cells id before now.there block i word (elim has [

@@ -312,7 +312,6 @@ module _ {N : Type 0} (fits : Shape → Entry N → Type 0) (shape : Shape) (wor
     heard = EachView-same (past_of {N = N}) views id before after there (λ _. AreHeard) refl h.history.heard;
     legal = h.history.legal;
     fitting = h.history.fitting;
-    in_order = h.history.in_order;
     ranked = h.history.ranked;
     held = elim (cases_eq h.history.held.0 id) [
       | inl same ↦

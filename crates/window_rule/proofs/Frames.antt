@@ -42,7 +42,6 @@ module _ {N : Type 0} (shape : Shape) (views : List (View N)) (id : ℕ) (before
     heard = EachView-same (past_of {N = N}) views id before after there (λ _. AreHeard) past h.heard;
     legal = h.legal;
     fitting = h.fitting;
-    in_order = h.in_order;
     ranked = h.ranked;
     held = elim (cases_eq h.held.0 id) [
       | inl here ↦

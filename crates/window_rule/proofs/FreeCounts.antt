@@ -5,7 +5,7 @@ use Rattle.std.proofs.lemmas.List.{length-map}
 use mathlib.Core.Option.{some, some-injective}
 use lib.ListN.{get_elem?}
 use Rattle.object_words.specs.Entries.{Entry, store_after}
-use Rattle.object_words.specs.Blocks.{on_rank as place_on, used_blocks}
+use Rattle.object_words.specs.Blocks.{on_rank as place_on, contents_use}
 use Rattle.object_words.specs.Contents.{content_of}
 use Rattle.rma_layout.specs.declared.word.Word.TheVariants.{Commit}
 use Rattle.rma_layout.specs.Shape.{Shape}
@@ -84,13 +84,13 @@ module _ {N : Type 0} (fits : Shape → Entry N → Type 0) (shape : Shape) (wor
       let kept = subst (IsKept shape (sizes_in words) (data_in words) object (now.lawful.ground.objects object).chain) (h.contents object (on, below) writer) (h.objects object (on, below)) in
       count_all rank (now.lawful.ground.objects object).chain (h.lie object).one_rank ∙ kept.blocks
 
-  pub free_count : length (now.lawful.ground.free rank) + used_blocks shape (store_after before.seen) rank + count_on rank (places_of before.private) ≡ shape.blocks
+  pub free_count : length (now.lawful.ground.free rank) + contents_use shape (store_after before.seen) rank + count_on rank (places_of before.private) ≡ shape.blocks
   free_count =
       let h = now.lawful.holds in
       let used = λ (b : ℕ). chain_length shape (place_on rank b) (content_of (store_after now.lawful.ground.history) (place_on rank b)) in
       let owned = λ (j : ℕ). count_on rank (places_of (get_or (owns_of views) j [])) in
-      let seen : used_blocks shape (store_after before.seen) rank ≡ used_blocks shape (store_after now.lawful.ground.history) rank = ap (λ s. used_blocks shape (store_after s) rank) all_seen in
-      let sum : used_blocks shape (store_after now.lawful.ground.history) rank ≡ sum_below shape.blocks used = total_is_sum shape.blocks used in
+      let seen : contents_use shape (store_after before.seen) rank ≡ contents_use shape (store_after now.lawful.ground.history) rank = ap (λ s. contents_use shape (store_after s) rank) all_seen in
+      let sum : contents_use shape (store_after now.lawful.ground.history) rank ≡ sum_below shape.blocks used = total_is_sum shape.blocks used in
       let mine : owned id ≡ count_on rank (places_of before.private) = ap (λ l. count_on rank (places_of l)) (part_before (λ (v : View N). v.private) views id before before [] now.there) in
       let here : id < length (owns_of views) = let same : length (owns_of views) ≡ length views = length-map views (λ (v : View N). v.private) in omega (arith, below_length views id before now.there) in
       omega (

@@ -138,7 +138,6 @@ module _ {N : Type 0} (fits : Shape → Entry N → Type 0) (shape : Shape) (wor
     heard = each_view (past_of {N = N}) AreHeard hand.one_heard hand.other_heard h.history.heard;
     legal = h.history.legal;
     fitting = h.history.fitting;
-    in_order = h.history.in_order;
     ranked = h.history.ranked;
     each = each_view (chronicle_of {N = N}) (IsChronicle ground.history) hand.one_chronicle hand.other_chronicle h.history.each;
     held =

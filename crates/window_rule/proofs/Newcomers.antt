@@ -113,7 +113,6 @@ module _ {N : Type 0} (fits : Shape → Entry N → Type 0) (shape : Shape) (wor
       heard = EachView-push (past_of {N = N}) AreHeard views spent tt h.history.heard;
       legal = h.history.legal;
       fitting = h.history.fitting;
-      in_order = h.history.in_order;
       ranked = h.history.ranked;
     };
     objects = h.objects;

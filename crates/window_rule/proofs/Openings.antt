@@ -9,7 +9,8 @@ use Rattle.std.proofs.lemmas.Nat.{mul-add-lt}
 use mathlib.Core.Option.{some, some-injective, some-ne-none}
 use lib.ListN.{get_elem?, length-replicate, get_or-replicate}
 use Rattle.atomic_table.specs.Table.{opening}
-use Rattle.object_words.specs.Entries.{Entry}
+use Rattle.std.proofs.lemmas.List.Elements.{All-nil}
+use Rattle.object_words.specs.Entries.{Entry, HasMaps}
 use Rattle.rma_layout.specs.declared.word.Word.{Word}
 use Rattle.rma_layout.specs.declared.word.Word.TheVariants.{Lock, Length, FreeList, Stamp, Data, Head, Gate, Commit}
 use Rattle.rma_layout.specs.Shape.{Shape, window_words, reserved_blocks}
@@ -460,9 +461,8 @@ module _ {N : Type 0} (fits : Shape → Entry N → Type 0) (shape : Shape) (wor
       held = (0, first_view shape, refl, refl);
       each = first_only {N = N} shape (chronicle_of {N = N}) (λ _. IsChronicle []) (record { begins = ([], refl); own = refl; rest = tt });
       heard = first_only {N = N} shape (past_of {N = N}) (λ _. AreHeard) tt;
-      legal = record { reads = tt; room = tt };
+      legal = record { maps = All-nil HasMaps; reads = tt; blocks = λ _. tt };
       fitting = tt;
-      in_order = tt;
       ranked = tt;
     };
     objects = objects_stand;

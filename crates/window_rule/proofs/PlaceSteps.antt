@@ -33,7 +33,6 @@ module _ {N : Type 0} (fits : Shape → Entry N → Type 0) (shape : Shape) (bef
     heard = EachView-set (past_of {N = N}) views id before after now.there (λ _. AreHeard) (λ _. AreHeard) tt (λ j view ne at was. was) h.heard;
     legal = h.legal;
     fitting = h.fitting;
-    in_order = h.in_order;
     ranked = h.ranked;
     held = (id, after, set_here_at views id before after now.there, refl);
     each = EachView-set (chronicle_of {N = N}) views id before after now.there (λ _. IsChronicle ground.history) (λ _. IsChronicle ground.history)

@@ -33,7 +33,6 @@ module _ {N : Type 0} (fits : Shape → Entry N → Type 0) (shape : Shape) (bef
     counted = h.counted;
     legal = h.legal;
     fitting = h.fitting;
-    in_order = h.in_order;
     ranked = h.ranked;
     held = elim (cases_eq h.held.0 id) [
       | inl here ↦

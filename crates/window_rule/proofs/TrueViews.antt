@@ -1,6 +1,7 @@
 -- What the invariant says of one view alone.
 use Rattle.std.proofs.Common.{◌≡◌, ℕ, List, [], ◌∷◌, ◌++◌, set, sym, ap, subst, arith, Some}
-use Rattle.std.specs.List.{AllByRecursion}
+use Rattle.std.specs.List.{All, AllByRecursion}
+use Rattle.std.proofs.lemmas.List.Elements.{All-from_recursion, recursion_from_All}
 use mathlib.Core.Option.{some}
 use lib.ListN.{get_elem?}
 use Rattle.atomic_table.proofs.Lists.{at_map}
@@ -8,7 +9,7 @@ use Rattle.rma_layout.specs.declared.word.Word.{Word}
 use Rattle.rma_layout.specs.Shape.{Shape}
 use Rattle.rma_layout.specs.Placement.{Place}
 use Rattle.object_words.specs.Contents.{Contents, overlay}
-use Rattle.object_words.specs.Entries.{Entry, EachEntry}
+use Rattle.object_words.specs.Entries.{Entry, EachEntry, HasMaps}
 use Rattle.window_rule.specs.View.{View, Known}
 use Rattle.window_rule.specs.Known.{known_of}
 use Rattle.window_rule.specs.Words.{Words, with_word, is_block}
@@ -39,8 +40,9 @@ module _ {N : Type 0} (fits : Shape → Entry N → Type 0) (shape : Shape) (wor
       let chronicle = h.history.each id view there in
       let begins = chronicle.begins in record {
         legal = record {
+          maps = All-from_recursion HasMaps view.seen (all_first HasMaps view.seen begins.0 (recursion_from_All HasMaps (view.seen ++ begins.0) (subst (All HasMaps) (sym begins.1) h.history.legal.maps)));
           reads = each_first _ [] view.seen begins.0 (subst (EachEntry _ []) (sym begins.1) h.history.legal.reads);
-          room = each_first _ [] view.seen begins.0 (subst (EachEntry _ []) (sym begins.1) h.history.legal.room);
+          blocks = λ counted. each_first _ [] view.seen begins.0 (subst (EachEntry _ []) (sym begins.1) (h.history.legal.blocks counted));
         };
         fitting = all_first (fits shape) view.seen begins.0 (subst (AllByRecursion (fits shape)) (sym begins.1) h.history.fitting);
         own = chronicle.own;

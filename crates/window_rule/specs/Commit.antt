@@ -4,8 +4,8 @@ use mathlib.Core.List.{IsPrefix}
 use Rattle.rma_layout.specs.Shape.{Shape}
 use Rattle.rma_layout.specs.Placement.{Place, IsBlock}
 use Rattle.object_words.specs.Blocks.{one_if, growth, is_reserved, on_rank as place_on}
-use Rattle.object_words.specs.Contents.{words_at, is_empty, IsInOrder}
-use Rattle.object_words.specs.Entries.{Entry}
+use Rattle.object_words.specs.Contents.{words_at, is_empty}
+use Rattle.object_words.specs.Entries.{Entry, HasMaps}
 use Rattle.window_rule.specs.View.{View, Dirt, Known}
 use Rattle.window_rule.specs.Dirty.{dirt_of}
 use Rattle.window_rule.specs.RightsHold.{least_of}
@@ -60,7 +60,7 @@ pub record MayCommit {N : Type 0} (fits : Shape → Entry N → Type 0) (shape :
   pub allowed : 0 < view.allowance
   pub rank : entry.rank ≡ least_of view.rights
   pub fitting : fits shape entry
-  pub in_order : IsInOrder entry.reads × IsInOrder entry.writes
+  pub maps : HasMaps entry
   pub reads : (object : Place) (words : List ℕ) → words_at entry.reads object ≡ Some words → IsBlock shape object × WasRead view object words
   pub writes : (object : Place) → words_at entry.writes object ≡ attached_of (dirt_of view.dirty object)
   pub attached : (object : Place) (dirt : Dirt) → dirt_of view.dirty object ≡ Some dirt → dirt.attached ≢ None

@@ -5,7 +5,6 @@ use mathlib.Core.List.{IsPrefix}
 use mathlib.Core.Option.{some}
 use lib.ListN.{get_elem?}
 use Rattle.rma_layout.specs.Shape.{Shape}
-use Rattle.object_words.specs.Contents.{IsInOrder}
 use Rattle.object_words.specs.Entries.{Entry, IsLegalHistory}
 use Rattle.window_rule.specs.View.{View, Chronicle}
 use Rattle.window_rule.specs.EachView.{EachView}
@@ -50,8 +49,7 @@ pub record HistoryHolds {N : Type 0} (fits : Shape → Entry N → Type 0) (shap
   pub held : (id : ℕ) × (one : View N) × (get_elem? views id ≡ some one) × (one.seen ≡ history)
   pub each : EachView (chronicle_of {N = N}) (λ _. IsChronicle history) views
   pub heard : EachView (past_of {N = N}) (λ _. AreHeard) views
-  pub legal : IsLegalHistory shape history
+  pub legal : IsLegalHistory Bool.true shape history
   -- so that a view with every right has every entry
   pub ranked : AllByRecursion (λ (entry : Entry N). entry.rank < shape.ranks) history
   pub fitting : AllByRecursion (fits shape) history
-  pub in_order : AllByRecursion (λ (entry : Entry N). IsInOrder entry.reads × IsInOrder entry.writes) history

@@ -1,5 +1,5 @@
 -- What a user of a window may conclude where its words and all views are lawful.
-use Rattle.std.specs.Prelude.{◌≡◌, ◌≢◌, ℕ, List, length, Some, None}
+use Rattle.std.specs.Prelude.{◌≡◌, ◌≢◌, ℕ, List, length, Some, None, true}
 use Rattle.std.specs.List.{AllByRecursion}
 use mathlib.Core.Option.{some}
 use mathlib.Core.List.{IsPrefix}
@@ -44,7 +44,7 @@ pub record IsStored (shape : Shape) (words : Words) (object : Place) (chain : Li
 module _ {N : Type 0} (fits : Shape → Entry N → Type 0) (shape : Shape) (words : Words) (views : List (View N)) (lawful : IsLawful fits shape words views) where
   -- the history is legal, each entry fits, the commit word counts them, and each view has seen a beginning of it
   pub record HasHistory : Type 0 where
-    pub legal : IsLegalHistory shape lawful.ground.history
+    pub legal : IsLegalHistory true shape lawful.ground.history
     pub fitting : AllByRecursion (fits shape) lawful.ground.history
     pub counted : words Commit ≡ length lawful.ground.history
     pub begins : (id : ℕ) (view : View N) → get_elem? views id ≡ some view → IsPrefix view.seen lawful.ground.history

@@ -4,7 +4,7 @@ use Rattle.rma_layout.specs.declared.word.Word.{Word}
 use Rattle.rma_layout.specs.declared.word.Word.TheVariants.{Lock, Length, FreeList, Stamp, Data, Head, Gate, Commit}
 use Rattle.rma_layout.specs.Shape.{Shape}
 use Rattle.rma_layout.specs.Placement.{Place, IsBlock, same_place}
-use Rattle.object_words.specs.Blocks.{on_rank, used_blocks}
+use Rattle.object_words.specs.Blocks.{on_rank, contents_use}
 use Rattle.object_words.specs.Entries.{store_after}
 use Rattle.window_rule.specs.View.{View, HeadNote, OwnBlock}
 use Rattle.window_rule.specs.Known.{without_cells}
@@ -132,7 +132,7 @@ pub record Heads {N : Type 0} (shape : Shape) (rank : ℕ) (before : View N) (fo
   pub view : after ≡ headed rank found list before
   pub first : first_of found ≡ number_to list
   -- a view that is alone and has nothing detached knows how long the list is
-  pub counted : IsAlone shape before → before.dirty ≡ [] → length list + used_blocks shape (store_after before.seen) rank + count_on rank (places_of before.private) ≡ shape.blocks
+  pub counted : IsAlone shape before → before.dirty ≡ [] → length list + contents_use shape (store_after before.seen) rank + count_on rank (places_of before.private) ≡ shape.blocks
 
 pub record MayNext {N : Type 0} (view : View N) (block : Place) : Type 0 where
   pub note : HeadNote

@@ -1,5 +1,5 @@
 -- What is true of every view.
-use Rattle.std.specs.Prelude.{◌≡◌, ℕ, ◌+◌, ◌^◌, ◌<◌, ◌≤◌, List, length, Some}
+use Rattle.std.specs.Prelude.{◌≡◌, ℕ, ◌+◌, ◌^◌, ◌<◌, ◌≤◌, List, length, Some, true}
 use Rattle.std.specs.List.{AllByRecursion}
 use mathlib.Core.Option.{some}
 use lib.ListN.{get_elem?}
@@ -27,7 +27,7 @@ pub record WasLawful {N : Type 0} (fits : Shape → Entry N → Type 0) (shape :
   pub found_is : found ≡ words word
 
 pub record IsTrueView {N : Type 0} (fits : Shape → Entry N → Type 0) (shape : Shape) (view : View N) : Type 0 where
-  pub legal : IsLegalHistory shape view.seen
+  pub legal : IsLegalHistory true shape view.seen
   pub fitting : AllByRecursion (fits shape) view.seen
   pub own : view.own ≡ numbers_from 0 view.rights view.seen
   -- what it knows is of blocks of the window, and is what the history that it has seen gives
