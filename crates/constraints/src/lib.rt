@@ -1,0 +1,9 @@
+//! Whether the labels and the properties of a vertex or an edge pass a constraint. No call takes memory.
+#![tactic(auto)]
+
+mod compare;
+mod constraint;
+#[cfg(test)]
+mod tests;
+
+pub use constraint::passes;
