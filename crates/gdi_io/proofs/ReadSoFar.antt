@@ -3,7 +3,7 @@ use Rattle.std.proofs.Common.{◌≡◌, ℕ, ◌+◌, ◌-◌, ◌<◌, ◌≤�
 use Rattle.std.proofs.lemmas.List.{take-append-drop, append-nil, length-take-le}
 use Rattle.std.proofs.lemmas.Option.{IfSome_then}
 use Rattle.gdi_io.specs.declared.refused.ReadRefused.TheVariants.{Failed, TooLong, NoMemory}
-use Rattle.gdi_io.specs.Files.{place_of, bytes_of}
+use Rattle.gdi_io.specs.Files.{file_place, bytes_of}
 use Rattle.gdi_io.specs.Shelf.{Told, Selects, Reads}
 use Rattle.gdi_io.specs.Whole.{longest_file, ReadsAll}
 
@@ -18,7 +18,7 @@ pub record HasRead (old now : Told) (name bytes : List ℕ) : Type 0 where
   pub given : now.given ≡ length bytes
   pub short : length bytes ≤ longest_file
   pub files : now.files ≡ old.files
-  pub at : IfSome old.files (λ files. now.at ≡ Some (place_of files name))
+  pub at : IfSome old.files (λ files. now.at ≡ Some (file_place files name))
   pub left : IfSome old.files (λ files. IsFront now bytes (bytes_of files name))
 
 -- a file was selected

@@ -5,9 +5,9 @@ use Rattle.std.specs.Str.{bytes_eq}
 use Rattle.gdi_kinds.specs.declared.named_bytes.NamedBytes.{NamedBytes}
 
 -- the place of the file of this name, from 0
-abbrev pub place_of : List NamedBytes → List ℕ → Option ℕ
-place_of [] name = None
-place_of (file ∷ files) name = if bytes_eq file.name name then Some 0 else option_map suc (place_of files name)
+abbrev pub file_place : List NamedBytes → List ℕ → Option ℕ
+file_place [] name = None
+file_place (file ∷ files) name = if bytes_eq file.name name then Some 0 else option_map suc (file_place files name)
 
 -- what the file of this name holds: nothing where the name isn't held
 abbrev pub bytes_of : List NamedBytes → List ℕ → List ℕ

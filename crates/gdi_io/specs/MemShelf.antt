@@ -2,7 +2,7 @@
 use Rattle.std.specs.Prelude.{◌≡◌, ℕ, ◌+◌, min, Bool, false, ◌||◌, List, [], length, Option, Some, None, is_none, Result, IfOk, is_err}
 use Rattle.gdi_kinds.specs.declared.named_bytes.NamedBytes.{NamedBytes}
 use Rattle.gdi_io.specs.Faults.{last_count, faults_after}
-use Rattle.gdi_io.specs.Files.{place_of}
+use Rattle.gdi_io.specs.Files.{file_place}
 use Rattle.gdi_io.specs.Listed.{is_listed}
 use Rattle.gdi_io.specs.Shelf.{Told}
 
@@ -53,7 +53,7 @@ pub record CountsCall {T E : Type 0} (old new : MemFiles) (result : Result T E) 
 -- a select fails exactly where its number is listed or the name isn't held
 pub record MemSelects {T E : Type 0} (old new : MemFiles) (name : List ℕ) (result : Result T E) : Type 0 where
   pub counted : CountsCall old new result
-  pub failed : is_err result ≡ (is_listed old.fails old.calls || is_none (place_of old.files name))
+  pub failed : is_err result ≡ (is_listed old.fails old.calls || is_none (file_place old.files name))
 
 -- a read fails exactly where its number is listed, and else gives as much of what is left as the piece holds
 pub record MemReads {E : Type 0} (old new : MemFiles) (piece : List ℕ) (result : Result ℕ E) : Type 0 where

@@ -2,7 +2,7 @@
 use Rattle.std.specs.Prelude.{◌≡◌, ℕ, ◌+◌, ◌≤◌, min, Bool, IsTrue, List, [], length, take, drop, Option, Some, None, IfSome, IfNone, Result, OnOk, OnErr, IfOk, is_err, ◌↔◌}
 use Rattle.gdi_kinds.specs.declared.named_bytes.NamedBytes.{NamedBytes}
 use Rattle.gdi_io.specs.Faults.{HasCause, last_count}
-use Rattle.gdi_io.specs.Files.{place_of, bytes_of}
+use Rattle.gdi_io.specs.Files.{file_place, bytes_of}
 
 pub record Told : Type 0 where
   -- how often it has failed: a number that never falls
@@ -36,7 +36,7 @@ silent faults halted given = record {
 -- its last call failed and, where told, the file last selected is this one
 pub record IsHaltedAt (shelf : Told) (name : List ℕ) : Type 0 where
   pub halted : IsTrue shelf.halted
-  pub at : IfSome shelf.files (λ files. shelf.at ≡ Some (place_of files name))
+  pub at : IfSome shelf.files (λ files. shelf.at ≡ Some (file_place files name))
 
 -- selecting the file of a name
 pub record Selects {T E : Type 0} (old new : Told) (name : List ℕ) (result : Result T E) : Type 0 where
@@ -44,7 +44,7 @@ pub record Selects {T E : Type 0} (old new : Told) (name : List ℕ) (result : R
   pub halted : new.halted ≡ is_err result
   pub given : new.given ≡ 0
   pub files : new.files ≡ old.files
-  pub at : IfSome old.files (λ files. new.at ≡ Some (place_of files name))
+  pub at : IfSome old.files (λ files. new.at ≡ Some (file_place files name))
   pub untold : IfNone old.files (new.at ≡ None)
   pub left : IfSome old.files (λ files. OnOk result (new.left ≡ Some (bytes_of files name)))
 

@@ -1,6 +1,6 @@
 ghost use Rattle.std.specs.Prelude.{◌≡◌, ◌<◌, length, min, take};
 ghost use Rattle.std.specs.Str.{bytes_eq};
-ghost use Rattle.gdi_io.specs.Files.{bytes_at, place_of};
+ghost use Rattle.gdi_io.specs.Files.{bytes_at, file_place};
 ghost use Rattle.gdi_io.specs.MemShelf.{MemReads, MemSelects, told_of, untouched};
 ghost use Rattle.gdi_io.specs.Shelf.{Reads, Selects};
 
@@ -74,7 +74,7 @@ impl Shelf for MemShelf {
         let listed = self.calls.count_call();
         self.given = 0;
         self.offset = 0;
-        self.at = place_of(&self.files, name.as_bytes());
+        self.at = file_place(&self.files, name.as_bytes());
         self.halted = listed || self.at.is_none();
         if self.halted {
             self.faults = self.faults.saturating_add(1);
@@ -111,8 +111,8 @@ fn copy_front(from: &[u8], into: &mut [u8]) -> usize
 }
 
 // The place of the first file of a name.
-fn place_of(files: &FileList, name: &[u8]) -> Option<usize>
-    ensures { result ≡ place_of files.now name.now }
+fn file_place(files: &FileList, name: &[u8]) -> Option<usize>
+    ensures { result ≡ file_place files.now name.now }
 {
     files
         .as_slice()

@@ -21,7 +21,7 @@ use Rattle.graph_model.proofs.VertexSteps.{is_bucket_full}
 use Rattle.graph_model.proofs.Bare.{ids_after_calls, reply_by_ids, graph_after_calls-bare, replies_to_calls-bare, length-after_calls}
 use Rattle.graph_model.proofs.Room.{full_rank-default}
 use Rattle.gdi_run.specs.ScriptText.{IsPlainTxn, IsPlainScript, MayHold, vertex_calls}
-use Rattle.gdi_run.specs.OutputText.{IsWord, HasWords}
+use Rattle.gdi_run.specs.OutputText.{IsOneWord, HasWords}
 use Rattle.gdi_run.specs.Serial.{ends, entries_after, serial_lines, serial_writes, next_entries}
 use Rattle.gdi_run.proofs.SerialIsLegal.{Fits, entries_rise, serial_is_legal}
 
@@ -35,13 +35,13 @@ are_bare [] h = tt
 are_bare (c ∷ cs) h = (is_bare c h.0, are_bare cs h.1)
 
 -- what they answer is one word
-is_word : (ids : List ℕ) (c : Call) → MayHold c → IsWord (reply_by_ids default_shape ids c)
+is_word : (ids : List ℕ) (c : Call) → MayHold c → IsOneWord (reply_by_ids default_shape ids c)
 is_word ids (Vertex id) h =
-    elim (has ids id) as (λ there. IsWord (if there then reply.Exists else (if is_bucket_full default_shape (bare_graph ids).vertices id then reply.TooLarge else reply.Done))) [
+    elim (has ids id) as (λ there. IsOneWord (if there then reply.Exists else (if is_bucket_full default_shape (bare_graph ids).vertices id then reply.TooLarge else reply.Done))) [
       | true ↦ tt
-      | false ↦ elim (is_bucket_full default_shape (bare_graph ids).vertices id) as (λ full. IsWord (if full then reply.TooLarge else reply.Done)) [ true ↦ tt | false ↦ tt ]
+      | false ↦ elim (is_bucket_full default_shape (bare_graph ids).vertices id) as (λ full. IsOneWord (if full then reply.TooLarge else reply.Done)) [ true ↦ tt | false ↦ tt ]
     ]
-is_word ids (Has id) h = elim (has ids id) as (λ there. IsWord (if there then reply.Yes else reply.No)) [ true ↦ tt | false ↦ tt ]
+is_word ids (Has id) h = elim (has ids id) as (λ there. IsOneWord (if there then reply.Yes else reply.No)) [ true ↦ tt | false ↦ tt ]
 is_word ids c h = absurd h
 
 -- calls that don't write are `has`, and leave the vertices
@@ -61,7 +61,7 @@ record FitsAndWords (ids : List ℕ) (k : ℕ) (ps : List Placed) : Type 0 where
   fits : Fits default_shape (bare_graph ids) ps
   words : AllByRecursion HasWords (serial_lines default_shape (bare_graph ids) k ps)
 
-ends_in_words : (a w : Bool) (k section number : ℕ) (rs : List Reply) → AllByRecursion IsWord rs → HasWords (record { section = section; txn = number; outcome = ends a w k rs })
+ends_in_words : (a w : Bool) (k section number : ℕ) (rs : List Reply) → AllByRecursion IsOneWord rs → HasWords (record { section = section; txn = number; outcome = ends a w k rs })
 ends_in_words true w k section number rs words = tt
 ends_in_words false true k section number rs words = words
 ends_in_words false false k section number rs words = words
@@ -77,7 +77,7 @@ plain_run ids k (p ∷ ps) plain few =
     record {
       fits = ((full_rank-default ids p.txn bare (omega arith), stays), subst (λ g. Fits default_shape g ps) (sym after) rest.fits);
       words = (
-        ends_in_words p.txn.aborts (is_writing p.txn) k p.section p.number (replies_to default_shape (bare_graph ids) p.txn) (replies_to_calls-bare default_shape MayHold IsWord is_bare is_word ids p.txn.calls plain.0.calls),
+        ends_in_words p.txn.aborts (is_writing p.txn) k p.section p.number (replies_to default_shape (bare_graph ids) p.txn) (replies_to_calls-bare default_shape MayHold IsOneWord is_bare is_word ids p.txn.calls plain.0.calls),
         subst (λ g. AllByRecursion HasWords (serial_lines default_shape g (next_entries k p.txn) ps)) (sym after) rest.words,
       );
     }

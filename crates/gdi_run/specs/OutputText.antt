@@ -84,13 +84,13 @@ abbrev pub output_text : Printed → List ℕ
 output_text run = flat_map line_text run.lines ++ codes "writes " ++ decimal run.writes ++ 10 ∷ []
 
 -- a reply that is one word
-abbrev pub IsWord : Reply → Type 0
-IsWord Done = Unit {0}
-IsWord Yes = Unit {0}
-IsWord No = Unit {0}
-IsWord Exists = Unit {0}
-IsWord TooLarge = Unit {0}
-IsWord reply = ⊥
+abbrev pub IsOneWord : Reply → Type 0
+IsOneWord Done = Unit {0}
+IsOneWord Yes = Unit {0}
+IsOneWord No = Unit {0}
+IsOneWord Exists = Unit {0}
+IsOneWord TooLarge = Unit {0}
+IsOneWord reply = ⊥
 
 abbrev pub replies_in : Outcome → List Reply
 replies_in (Wrote k replies) = replies
@@ -100,4 +100,4 @@ replies_in (Full rank place) = []
 
 -- a line whose replies are one word each
 abbrev pub HasWords : Line → Type 0
-HasWords line = AllByRecursion IsWord (replies_in line.outcome)
+HasWords line = AllByRecursion IsOneWord (replies_in line.outcome)

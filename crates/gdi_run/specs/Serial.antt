@@ -39,7 +39,7 @@ serial_writes k [] = k
 serial_writes k (p ∷ ps) = serial_writes (next_entries k p.txn) ps
 
 -- A run after some transactions of a section: whatever follows, the lines so far and those of the rest are the same.
-pub record GoesOn (old new : SerialRun) (section first : ℕ) (txns : List Txn) : Type 0 where
+pub record RunsOn (old new : SerialRun) (section first : ℕ) (txns : List Txn) : Type 0 where
   pub shape : new.graph.shape ≡ old.graph.shape
   pub lines : (rest : List Placed) → new.lines ++ serial_lines old.graph.shape new.graph.graph new.writes rest
       ≡ old.lines ++ serial_lines old.graph.shape old.graph.graph old.writes (placed_from section first txns ++ rest)

@@ -1,7 +1,7 @@
 ghost use Rattle.std.specs.Prelude.{◌≡◌, ◌++◌, ◌∷◌, [], IfOk, OnOk};
 ghost use Rattle.std.specs.String.{string_bytes};
 ghost use Rattle.std.specs.List.{flat_map, AllByRecursion};
-ghost use Rattle.gdi_run.specs.OutputText.{output_text, line_text, reply_line, reply_text, IsWord, HasWords};
+ghost use Rattle.gdi_run.specs.OutputText.{output_text, line_text, reply_line, reply_text, IsOneWord, HasWords};
 
 use gdi_kinds::{Bytes, Line, NoMemory, Outcome, Printed, Reply};
 use std::alloc::Global;
@@ -43,7 +43,7 @@ fn print_line(text: &mut String, line: &Line) -> Result<(), NoMemory>
 }
 
 fn print_replies(text: &mut String, replies: &[Reply]) -> Result<(), NoMemory>
-    requires { AllByRecursion IsWord replies.now }
+    requires { AllByRecursion IsOneWord replies.now }
     ensures { OnOk result (string_bytes text.new ≡ string_bytes text.old ++ flat_map reply_line replies.now) }
 {
     for reply in replies {
@@ -55,7 +55,7 @@ fn print_replies(text: &mut String, replies: &[Reply]) -> Result<(), NoMemory>
 
 // The word of a reply that is one word.
 fn word_of(reply: &Reply) -> &'static str
-    requires { IsWord reply.now }
+    requires { IsOneWord reply.now }
     ensures { result.now ≡ reply_text reply.now }
 {
     match reply {

@@ -6,7 +6,7 @@ ghost use Rattle.graph_model.specs.Bare.{IsBareCall};
 ghost use Rattle.graph_model.specs.LegalRun.{IsLegalRun};
 ghost use Rattle.gdi_run.specs.ScriptText.{IsPlainScript};
 ghost use Rattle.gdi_run.specs.OutputText.{HasWords};
-ghost use Rattle.gdi_run.specs.Serial.{GoesOn, RunsOne, ends};
+ghost use Rattle.gdi_run.specs.Serial.{RunsOn, RunsOne, ends};
 
 use gdi_kinds::{Line, LineList, NoMemory, Outcome, Printed, ReplyList, Script, Section, Txn};
 use graph_model::{ModelRefused, PlainGraph};
@@ -46,7 +46,7 @@ pub(crate) struct SerialRun {
 fn run_section(run: &mut SerialRun, number: u64, section: &Section) -> Result<(), NoMemory>
     requires bare { AllByRecursion (λ txn. AllByRecursion IsBareCall txn.calls) section.now }
     requires room { run.old.writes + length section.now < 2 ^ 64 }
-    ensures { OnOk result (GoesOn run.old run.new number 1 section.now) }
+    ensures { OnOk result (RunsOn run.old run.new number 1 section.now) }
 {
     for (index, txn) in section.as_slice().iter().enumerate() {
         run_txn(run, number, index as u64 + 1, txn)?;

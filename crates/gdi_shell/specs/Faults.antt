@@ -36,8 +36,8 @@ exit_number NoMemory = 10
 exit_number (BadOutput line) = 11
 
 -- the number that the program ends with after a status: 0 where all was done
-abbrev pub number_of : Status → ℕ
-number_of status = option_map_or exit_number (fault_of status) 0
+abbrev pub exit_number_of : Status → ℕ
+exit_number_of status = option_map_or exit_number (fault_of status) 0
 
 -- what it is that the words of the command line can't be had: want of memory, or a faulty command line
 abbrev pub status_of : ErrorKind → Status
