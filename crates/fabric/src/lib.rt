@@ -1,6 +1,7 @@
 //! The window that ranks share, and their steps on its words.
 #![tactic(auto)]
 
+pub mod examples;
 mod opening;
 mod plays;
 mod rank;
@@ -10,5 +11,5 @@ mod tests;
 mod view;
 mod window;
 
-pub use rank::Rank;
+pub use rank::{Enters, Rank};
 pub use window::Window;

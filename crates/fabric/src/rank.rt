@@ -14,6 +14,8 @@ mod splits;
 mod stamps;
 mod words;
 
+pub use commits::Enters;
+
 /// One of those who share a window. It stands for one or more of the window's ranks, and makes all its steps itself: no
 /// other rank's step changes what it knows.
 ///

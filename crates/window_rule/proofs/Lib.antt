@@ -53,3 +53,5 @@ pub mod TrueViews
 pub mod WholeOwn
 pub mod Openings
 pub mod LawsHold
+pub mod PairSteps
+pub mod PairReads

@@ -4,7 +4,7 @@ use mathlib.Core.List.{IsPrefix}
 use Rattle.rma_layout.specs.Shape.{Shape}
 use Rattle.rma_layout.specs.Placement.{Place, IsBlock}
 use Rattle.object_words.specs.Blocks.{one_if, growth, is_reserved, on_rank as place_on}
-use Rattle.object_words.specs.Contents.{words_at, is_empty}
+use Rattle.object_words.specs.Contents.{Contents, words_at, is_empty}
 use Rattle.object_words.specs.Entries.{Entry, HasMaps}
 use Rattle.window_rule.specs.View.{View, Dirt, Known}
 use Rattle.window_rule.specs.Dirty.{dirt_of}
@@ -67,6 +67,10 @@ pub record MayCommit {N : Type 0} (fits : Shape → Entry N → Type 0) (shape :
   pub room : (rank : ℕ) → rank < shape.ranks
       → sum_below shape.blocks (asked_at shape view.dirty rank) + sum_below shape.blocks (λ b. need_of shape (place_on rank b) (dirt_of view.dirty (place_on rank b)))
       ≤ count_on rank (places_of view.private) + sum_below shape.blocks (kept_at view.dirty rank)
+
+-- the entry that the view makes of these: it is made under the least of its rights
+abbrev pub entry_of : {N : Type 0} → View N → Contents → Contents → N → Entry N
+entry_of view reads writes note = record { rank = least_of view.rights; reads = reads; writes = writes; note = note }
 
 -- the entry is the last of the history, and the view has seen all of it
 pub record Commits {N : Type 0} (entry : Entry N) (before : View N) (found : ℕ) (after : View N) : Type 0 where

@@ -33,3 +33,4 @@ pub mod Reads
 pub mod MemoryHolds
 pub mod Truths
 pub mod Laws
+pub mod Pairs

@@ -1,9 +1,9 @@
 //! The step on the commit word.
 ghost use Rattle.std.specs.Prelude.{◌≡◌};
-ghost use Rattle.object_words.specs.Entries.{Entry};
+ghost use Rattle.object_words.specs.Contents.{Contents};
 ghost use Rattle.window_rule.specs.Lengths.{Places};
 ghost use Rattle.window_rule.specs.Truths.{IsTrueView, WasLawful};
-ghost use Rattle.window_rule.specs.Commit.{Commits, MayCommit};
+ghost use Rattle.window_rule.specs.Commit.{Commits, MayCommit, entry_of};
 ghost use Rattle.window_rule.specs.Trails.{Follows};
 
 use crate::rank::Rank;
@@ -12,19 +12,25 @@ use object_words::{Carries, Law};
 use rma_layout::Word;
 use std::marker::Brand;
 
+/// A note, and what its entry has read and writes. These two are known to proofs alone.
+pub trait Enters<L: Law>: Carries<L> {
+    ghost reads: { Self → Contents };
+
+    ghost writes: { Self → Contents };
+}
+
 impl<L: Law> Rank<L> {
-    /// Commits what it has attached as the next entry of the history, and answers the entry's number. What the entry is,
-    /// but for its note, is known to proofs alone.
-    pub fn commit<C: Carries<L>>(&mut self, window: &Window<L>, note: &C) -> u64
-        ghost entry: { Entry L.Note }
+    /// Commits what it has attached as the next entry of the history, made under the least of its rights, and answers the
+    /// entry's number.
+    pub fn commit<C: Enters<L>>(&mut self, window: &Window<L>, note: &C) -> u64
         requires window { self.old.window ≡ window.now.id }
-        requires means { entry.note ≡ C.note note.now }
-        requires may { MayCommit L.fits window.now.shape self.old.view entry }
+        requires may { MayCommit L.fits window.now.shape self.old.view
+            (entry_of self.old.view (C.reads note.now) (C.writes note.now) (C.note note.now)) }
         ensures window { self.new.window ≡ self.old.window }
-        ensures view { Commits entry self.old.view result self.new.view }
+        ensures view { Commits (entry_of self.old.view (C.reads note.now) (C.writes note.now) (C.note note.now))
+            self.old.view result self.new.view }
     {
-        let _note = note;
-        self.fetch_add::<Brand>(window, Word::Commit, 1)
+        self.fetch_add_about::<Brand, C>(window, Word::Commit, 1, note)
     }
 
     /// The length of the history now. All that it knows is so after these entries.

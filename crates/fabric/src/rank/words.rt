@@ -58,6 +58,24 @@ impl<L: Law> Rank<L> {
             .fetch_add::<Step<T>>(&mut self.seat, number, k)
     }
 
+    /// Adds to a word, where what is told speaks of a value.
+    pub(super) fn fetch_add_about<T: Telling<L::Note>, A>(
+        &mut self,
+        window: &Window<L>,
+        word: Word,
+        k: u64,
+        about: &A,
+    ) -> u64
+        requires window { self.old.window ≡ window.now.id }
+        requires word { IsWord window.now.shape word }
+        requires permits { Permits L.fits window.now.shape word (λ found. (found + k) % 2 ^ 64) self.old.view (T.told self.old.view) }
+        ensures window { self.new.window ≡ self.old.window }
+        ensures told { T.told self.old.view result self.new.view }
+    {
+        let _about = about;
+        self.fetch_add::<T>(window, word, k)
+    }
+
     /// Subtracts from a word, and answers the word as it was.
     pub(super) fn fetch_sub<T: Telling<L::Note>>(
         &mut self,
