@@ -9,3 +9,4 @@ pub mod Touched
 pub mod TouchedBy
 pub mod Heavier
 pub mod Growth
+pub mod Example
