@@ -1,5 +1,5 @@
 -- A call that does its work by several calls: the ends of the parts make one of the whole.
-use Rattle.std.proofs.Common.{Result, Ok, Err, IfOk, IfErr, ℕ, List, ◌≡◌, ◌∙◌, subst}
+use Rattle.std.proofs.Common.{Result, Ok, Err, IfOk, IfErr, ℕ, List, ◌∙◌, subst}
 use Rattle.rma_layout.specs.Shape.{Shape}
 use Rattle.rma_layout.specs.Placement.{Place}
 use Rattle.object_words.specs.Entries.{Entry}

@@ -1,0 +1,12 @@
+pub mod View
+pub mod Totals
+pub mod Viewed
+pub mod Objects
+pub mod Counted
+pub mod Used
+pub mod Change
+pub mod Touched
+pub mod TouchedBy
+pub mod Heavier
+pub mod Growth
+pub mod Example

@@ -1,0 +1,4 @@
+pub mod View
+pub mod Change
+pub mod Growth
+pub mod Example
