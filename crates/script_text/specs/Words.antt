@@ -1,0 +1,45 @@
+-- The words of a line.
+use Rattle.std.specs.Prelude.{◌≡◌, ◌≢◌, ℕ, Bool, true, false, List, [], ◌∷◌, ◌++◌, ◌⊎◌, Option, Some, None}
+use Rattle.std.specs.List.{flat_map, AllByRecursion}
+use Rattle.script_text.specs.Spelling.{quoted_byte}
+
+-- no space is in it
+abbrev pub HasNoSpace : List ℕ → Type 0
+HasNoSpace bytes = AllByRecursion (λ (b : ℕ). b ≢ 32) bytes
+
+-- a word that isn't quoted has no space and doesn't begin with a quote
+abbrev pub IsPlain : List ℕ → Type 0
+IsPlain [] = Unit {0}
+IsPlain (byte ∷ bytes) = (byte ≢ 34) × HasNoSpace (byte ∷ bytes)
+
+-- bytes between quotes, a quote and a backslash behind a backslash
+abbrev pub IsQuoted : List ℕ → Type 0
+IsQuoted w = (bytes : List ℕ) × (w ≡ 34 ∷ flat_map quoted_byte bytes ++ 34 ∷ [])
+
+abbrev pub IsWord : List ℕ → Type 0
+IsWord w = IsPlain w ⊎ IsQuoted w
+
+-- what follows a word: nothing, or a space and this
+abbrev pub IsBehind : List ℕ → Option (List ℕ) → Type 0
+IsBehind rest None = rest ≡ []
+IsBehind rest (Some next) = rest ≡ 32 ∷ next
+
+-- a text up to its closing quote, and what follows it
+abbrev pub IsClosed : List ℕ → List ℕ → Type 0
+IsClosed quoted rest = (bytes : List ℕ) × (quoted ≡ flat_map quoted_byte bytes ++ 34 ∷ rest)
+
+-- a line begins with a word, and this follows the space behind it, or nothing does
+abbrev pub HasFirst : List ℕ → List ℕ → Option (List ℕ) → Type 0
+HasFirst line w None = IsWord w × (line ≡ w)
+HasFirst line w (Some rest) = IsWord w × (line ≡ w ++ 32 ∷ rest)
+
+-- the words of a line, from the left
+abbrev pub IsCut : List ℕ → List (List ℕ) → Type 0
+IsCut line [] = ⊥
+IsCut line (w ∷ []) = HasFirst line w None
+IsCut line (w ∷ next ∷ words) = (rest : List ℕ) × HasFirst line w (Some rest) × IsCut rest (next ∷ words)
+
+-- the line has these words, or it has none
+abbrev pub IsCutOrNone : Bool → List ℕ → List (List ℕ) → Type 0
+IsCutOrNone true line words = IsCut line words
+IsCutOrNone false line words = (others : List (List ℕ)) → ¬ IsCut line others

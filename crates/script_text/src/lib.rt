@@ -1,0 +1,19 @@
+//! Scripts and outputs as texts, both ways.
+#![tactic(auto)]
+
+mod bytes;
+mod call_printer;
+mod call_reader;
+mod fields;
+mod line_words;
+mod number;
+mod script_printer;
+mod test_printer;
+mod test_reader;
+mod value_reader;
+mod verb;
+mod word_fields;
+mod word_printer;
+mod wrong;
+
+pub use script_printer::print_script;
