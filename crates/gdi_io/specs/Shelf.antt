@@ -18,10 +18,6 @@ pub record Told : Type 0 where
   -- what is left to read of it, where told
   pub left : Option (List ℕ)
 
--- a shelf that tells its files tells the place too, and a shelf that doesn't never will
-abbrev pub IsTold : Told → Type 0
-IsTold shelf = IfNone shelf.files (shelf.at ≡ None)
-
 -- a shelf that tells nothing of its files
 abbrev pub silent : ℕ → Bool → ℕ → Told
 silent faults halted given = record {

@@ -6,9 +6,10 @@ use std::alloc::Global;
 
 const LONGEST_FILE: usize = 67_108_864;
 
+// So many bytes are asked for at a time.
 const PIECE: usize = 65_536;
 
-/// The whole file of a name. It asks for 65,536 bytes at a time.
+/// The whole file of a name.
 ///
 /// `Failed` comes only where the shelf failed, and leaves it halted at this name. `TooLong` comes exactly where byte
 /// 67,108,865 was read.
