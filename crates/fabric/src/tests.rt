@@ -1,5 +1,6 @@
+use crate::examples::{read_pair, write_pair};
 use crate::{Rank, Window};
-use object_words::Law;
+use object_words::{Carries, Law};
 use rma_layout::{DPtr, Geometry, Word};
 use std::alloc::Global;
 use std::test::Fail;
@@ -11,6 +12,14 @@ impl Law for Anything {
     type Note = ();
 
     ghost fits = { λ _ _. Unit {0} };
+}
+
+/// A note that says nothing.
+#[derive(Drop)]
+struct NoNote;
+
+impl Carries<Anything> for NoNote {
+    ghost note = { λ _. tt };
 }
 
 fn is_for_threads<T: Send + Sync>(_value: &T) {}
@@ -32,5 +41,15 @@ fn one_rank_is_never_refused(rt: HostRuntime) -> Result<(), Fail> {
     assert_eq!(rt; rank.share_try(&window, other), Ok(()));
     rank.share_leave(&window, other);
     assert_eq!(rt; window.geometry().ranks(), 2);
+    Ok(())
+}
+
+#[test]
+fn two_words_are_written_and_read(rt: HostRuntime) -> Result<(), Fail> {
+    let (window, mut rank) = Window::<Anything>::new(rt.alloc(), Geometry::new(1, 8, 8, 2, 2)?)?;
+    let o = DPtr::new(0, 1);
+    assert_eq!(rt; write_pair(&mut rank, &window, o, 5, 9, &NoNote), Ok(0));
+    assert_eq!(rt; read_pair(&mut rank, &window, o), Ok(Some((5, 9))));
+    assert_eq!(rt; rank.place(&window), 1);
     Ok(())
 }
