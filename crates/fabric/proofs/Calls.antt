@@ -16,22 +16,30 @@ use Rattle.window_rule.specs.Steps.{Tells}
 use Rattle.fabric.specs.Window.{WindowModel, RankModel, IsSized}
 use Rattle.window_rule.proofs.WordFunctions.{words_in-set, words_in-word}
 
-module _ {N : Type 0} (fits : Shape → Entry N → Type 0) (slots id : ℕ) (me : Me (Unit {0}) (View N)) (f : ℕ → ℕ) (Told : View N → ℕ → View N → Type 0) where
+module _ {N : Type 0} (fits : Shape → Entry N → Type 0) (slots id : ℕ) (me : Me (Unit {0}) (View N))
+    (f : ℕ → ℕ) (Told : View N → ℕ → View N → Type 0) where
   -- a step that is permitted is one that the table allows
-  permitted : (shape : Shape) (word : Word) → IsWord shape word → IsInRange shape → ¬ me.0.rights ≡ [] → Permits fits shape word f me.0 (Told me.0)
+  permitted : (shape : Shape) (word : Word) → IsWord shape word → IsInRange shape
+      → ¬ me.0.rights ≡ [] → Permits fits shape word f me.0 (Told me.0)
       → Allows (IsRuled fits shape) slots id me (number_of shape word) f (Tells Told me)
   permitted shape word is_w in_range live permits state h homes there small =
       let number = number_of shape word in
       let words = words_in shape state.words in
-      let here : words word ≡ slice_index state.words number = words_in-word shape state.words word is_w in
-      let gone = permits.goes words state.views id (record { lawful = h.lawful; there = there; live = live; in_range = in_range }) (omega arith) in (
+      let here : words word ≡ slice_index state.words number =
+          words_in-word shape state.words word is_w in
+      let gone = permits.goes words state.views id
+          (record { lawful = h.lawful; there = there; live = live; in_range = in_range })
+          (omega arith) in (
         gone.after,
         keeps,
         tt,
         record {
           sized = length-set state.words number _ ∙ h.sized;
-          lawful = subst (λ w. IsLawful fits shape w (set state.views id gone.after)) (sym (words_in-set shape state.words word (f (slice_index state.words number)) h.sized is_w))
-              (subst (λ found. IsLawful fits shape (with_word words word (f found)) (set state.views id gone.after)) here gone.lawful);
+          lawful = subst (λ w. IsLawful fits shape w (set state.views id gone.after))
+              (sym (words_in-set shape state.words word
+              (f (slice_index state.words number)) h.sized is_w))
+              (subst (λ found. IsLawful fits shape (with_word words word (f found))
+                  (set state.views id gone.after)) here gone.lawful);
         },
         (subst (λ found. Told me.0 found gone.after) here gone.told, gone.same_rights, refl),
       )
@@ -39,24 +47,34 @@ module _ {N : Type 0} (fits : Shape → Entry N → Type 0) (slots id : ℕ) (me
   -- what the table asks of a step
   abbrev pub Asked : TableId → TableId → Shape → ℕ → Type 0
   Asked table seat key number =
-      (seat ≡ table) × (number < table.words) × Allows (IsRuled fits key) slots id me number f (Tells Told me)
+      (seat ≡ table) × (number < table.words)
+          × Allows (IsRuled fits key) slots id me number f (Tells Told me)
 
-  pub step_call : (word : Word) (table seat : TableId) (key geometry : Shape) (window : WindowModel) (rank : RankModel N) (number : ℕ)
-      → (let seen : WindowModel = record { id = table; shape = geometry } in seen ≡ window) → IsSized table key geometry
-      → (let seen : RankModel N = record { window = seat; view = me.0 } in seen ≡ rank) → ¬ me.0.rights ≡ []
+  pub step_call : (word : Word) (table seat : TableId) (key geometry : Shape) (window : WindowModel)
+      (rank : RankModel N) (number : ℕ)
+      → (let seen : WindowModel = record { id = table; shape = geometry } in seen ≡ window)
+          → IsSized table key geometry
+      → (let seen : RankModel N = record { window = seat; view = me.0 } in seen ≡ rank)
+          → ¬ me.0.rights ≡ []
       → rank.window ≡ window.id → IsWord window.shape word → number ≡ number_of window.shape word
       → Permits fits window.shape word f rank.view (Told rank.view)
       → Asked table seat key number
-  step_call word table seat key geometry window rank number window_is sized rank_is live of_window is_word number_is permits =
+  step_call word table seat key geometry window rank number window_is sized rank_is live of_window
+      is_word number_is permits =
       let shape_is : geometry ≡ window.shape = ap (λ (w : WindowModel). w.shape) window_is in
       let view_is : me.0 ≡ rank.view = ap (λ (r : RankModel N). r.view) rank_is in
       let word_here : IsWord geometry word = subst (λ s. IsWord s word) (sym shape_is) is_word in
-      let numbered : number ≡ number_of geometry word = number_is ∙ ap (λ s. number_of s word) (sym shape_is) in
+      let numbered : number ≡ number_of geometry word = number_is
+          ∙ ap (λ s. number_of s word) (sym shape_is) in
       let permits_here : Permits fits geometry word f me.0 (Told me.0) =
-      subst (λ v. Permits fits geometry word f v (Told v)) (sym view_is) (subst (λ s. Permits fits s word f rank.view (Told rank.view)) (sym shape_is) permits) in (
-        ap (λ (r : RankModel N). r.window) rank_is ∙ (of_window ∙ sym (ap (λ (w : WindowModel). w.id) window_is)),
+      subst (λ v. Permits fits geometry word f v (Told v)) (sym view_is)
+          (subst (λ s. Permits fits s word f rank.view (Told rank.view))
+          (sym shape_is) permits) in (
+        ap (λ (r : RankModel N). r.window) rank_is
+            ∙ (of_window ∙ sym (ap (λ (w : WindowModel). w.id) window_is)),
         omega (arith, number_of-lt geometry word word_here, sized.words),
         subst (λ k. Allows (IsRuled fits k) slots id me number f (Tells Told me)) (sym sized.same)
-            (subst (λ n. Allows (IsRuled fits geometry) slots id me n f (Tells Told me)) (sym numbered)
+            (subst (λ n. Allows (IsRuled fits geometry) slots id me n f (Tells Told me))
+                (sym numbered)
             (permitted geometry word word_here sized.in_range live permits_here)),
       )

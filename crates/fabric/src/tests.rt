@@ -1,5 +1,6 @@
+use crate::examples::{read_pair, write_pair};
 use crate::{Rank, Window};
-use object_words::Law;
+use object_words::{Carries, Law};
 use rma_layout::{DPtr, Geometry, Word};
 use std::alloc::Global;
 use std::test::Fail;
@@ -11,6 +12,14 @@ impl Law for Anything {
     type Note = ();
 
     ghost fits = { λ _ _. Unit {0} };
+}
+
+/// A note that says nothing.
+#[derive(Drop)]
+struct NoNote;
+
+impl Carries<Anything> for NoNote {
+    ghost note = { λ _. tt };
 }
 
 fn is_for_threads<T: Send + Sync>(_value: &T) {}
@@ -32,5 +41,70 @@ fn one_rank_is_never_refused(rt: HostRuntime) -> Result<(), Fail> {
     assert_eq!(rt; rank.share_try(&window, other), Ok(()));
     rank.share_leave(&window, other);
     assert_eq!(rt; window.geometry().ranks(), 2);
+    Ok(())
+}
+
+#[test]
+fn two_words_are_written_and_read(rt: HostRuntime) -> Result<(), Fail> {
+    let (window, mut rank) = Window::<Anything>::new(rt.alloc(), Geometry::new(1, 8, 8, 2, 2)?)?;
+    let o = DPtr::new(0, 1);
+    assert_eq!(rt; write_pair(&mut rank, &window, o, 5, 9, &NoNote), Ok(0));
+    assert_eq!(rt; read_pair(&mut rank, &window, o), Ok(Some((5, 9))));
+    assert_eq!(rt; rank.place(&window), 1);
+    Ok(())
+}
+
+#[test]
+fn ranks_are_refused_for_one_another(rt: HostRuntime) -> Result<(), Fail> {
+    let (window, mut one) = Window::<Anything>::new(rt.alloc(), Geometry::new(2, 8, 8, 2, 2)?)?;
+    let mut other = one.split(&window, 1, 10);
+    let o = DPtr::new(0, 1);
+
+    let Ok(()) = other.mark_try(&window, o) else {
+        panic!(rt; "marked")
+    };
+    let Err(marked) = one.share_try(&window, o) else {
+        panic!(rt; "shared beside a mark")
+    };
+    assert_eq!(rt; marked, 4_294_967_296);
+    other.mark_leave(&window, o);
+
+    let Ok(()) = other.share_try(&window, o) else {
+        panic!(rt; "shared")
+    };
+    let Err(shared) = one.mark_try(&window, o) else {
+        panic!(rt; "marked beside a share")
+    };
+    assert_eq!(rt; shared, 1);
+    let Ok(()) = one.share_try(&window, o) else {
+        panic!(rt; "both share")
+    };
+    let Err(both) = one.rise_try(&window, o) else {
+        panic!(rt; "rose beside a share")
+    };
+    assert_eq!(rt; both, 2);
+    one.share_leave(&window, o);
+    other.share_leave(&window, o);
+
+    let Ok(()) = other.all_try(&window) else {
+        panic!(rt; "whole")
+    };
+    let Err(whole) = one.writer_try(&window) else {
+        panic!(rt; "a writer beside a whole one")
+    };
+    assert_eq!(rt; whole, 4_294_967_296);
+    other.all_leave(&window);
+
+    let Ok(()) = other.writer_try(&window) else {
+        panic!(rt; "a writer")
+    };
+    let Err(writer) = one.all_try(&window) else {
+        panic!(rt; "whole beside a writer")
+    };
+    assert_eq!(rt; writer, 1);
+    other.writer_leave(&window);
+
+    one.join(&window, other);
+    assert_eq!(rt; one.place(&window), 0);
     Ok(())
 }

@@ -8,7 +8,7 @@ mod tests;
 mod want;
 
 pub use conflict::conflicts;
-pub use laws::{conflicts_by_counts, gate_words_count, lock_words_count};
+pub use laws::conflicts_by_counts;
 pub use want::Want;
 
 /// The mark in a lock word: its object is one view's alone. The bits below count shares.

@@ -22,16 +22,20 @@ abbrev pub GateRecounts : List GatePlace → ℕ → GatePlace → GatePlace →
 GateRecounts all word before after = (writers wholes lasting_writers lasting_wholes : ℕ)
     → writers + writers_of before ≡ sum_by writers_of all + writers_of after
     → wholes + wholes_of before ≡ sum_by wholes_of all + wholes_of after
-    → lasting_writers + lasting_writers_of before ≡ sum_by lasting_writers_of all + lasting_writers_of after
-    → lasting_wholes + lasting_wholes_of before ≡ sum_by lasting_wholes_of all + lasting_wholes_of after
+    → lasting_writers + lasting_writers_of before ≡ sum_by lasting_writers_of all
+    + lasting_writers_of after
+    → lasting_wholes + lasting_wholes_of before ≡ sum_by lasting_wholes_of all
+    + lasting_wholes_of after
     → IsGateCounted word writers wholes lasting_writers lasting_wholes
 
 abbrev pub gate_of : {N : Type 0} → View N → GatePlace
 gate_of view = view.gate
 
 -- it is kept by a step on the gate word that changes one view's place and counts it
-pub GateHolds-at : {N : Type 0} (new : ℕ) (views : List (View N)) (id : ℕ) (before after : View N) → get_elem? views id ≡ some before
-    → GateRecounts (map gate_of views) new before.gate after.gate → GateHolds new (map gate_of (set views id after))
+pub GateHolds-at : {N : Type 0} (new : ℕ) (views : List (View N)) (id : ℕ) (before after : View N)
+    → get_elem? views id ≡ some before
+    → GateRecounts (map gate_of views) new before.gate after.gate
+    → GateHolds new (map gate_of (set views id after))
 GateHolds-at {N} new views id before after there recount =
     let old = at_map gate_of views id before there in
     subst (GateHolds new) (sym (map-set gate_of views id after)) (recount _ _ _ _
@@ -51,7 +55,8 @@ one_place AsWhole = omega arith
 one_place WriterReturning = omega arith
 one_place WholeReturning = omega arith
 
-places_by_rights : {N : Type 0} (view : View N) (rights : List ℕ) → view.rights ≡ rights → (rights ≡ [] → view ≡ spent)
+places_by_rights : {N : Type 0} (view : View N) (rights : List ℕ) → view.rights ≡ rights
+    → (rights ≡ [] → view ≡ spent)
     → places_of view.gate ≤ length rights
 unfolding places_of
 places_by_rights {N} view [] e h =
@@ -74,13 +79,18 @@ lasting_whole WriterReturning = omega arith
 lasting_whole WholeReturning = omega arith
 
 -- places that are to last are places
-pub lasting_writers-le : (all : List GatePlace) → sum_by lasting_writers_of all ≤ sum_by writers_of all
-lasting_writers-le all = sum_by-mono lasting_writers_of writers_of all (λ j place there. lasting_writer place)
+pub lasting_writers-le : (all : List GatePlace)
+    → sum_by lasting_writers_of all ≤ sum_by writers_of all
+lasting_writers-le all = sum_by-mono lasting_writers_of writers_of all
+    (λ j place there. lasting_writer place)
 
 pub lasting_wholes-le : (all : List GatePlace) → sum_by lasting_wholes_of all ≤ sum_by wholes_of all
-lasting_wholes-le all = sum_by-mono lasting_wholes_of wholes_of all (λ j place there. lasting_whole place)
+lasting_wholes-le all = sum_by-mono lasting_wholes_of wholes_of all
+    (λ j place there. lasting_whole place)
 
-sum_of_both : (all : List GatePlace) → sum_by (λ place. writers_of place + wholes_of place) all ≡ sum_by writers_of all + sum_by wholes_of all
+sum_of_both : (all : List GatePlace)
+    → sum_by (λ place. writers_of place + wholes_of place) all ≡ sum_by writers_of all
+    + sum_by wholes_of all
 sum_of_both [] = refl
 sum_of_both (place ∷ more) =
     omega (
@@ -91,9 +101,11 @@ sum_of_both (place ∷ more) =
       sum_by-cons wholes_of place more,
     )
 
-module _ {N : Type 0} (fits : Shape → Entry N → Type 0) (shape : Shape) (words : Words) (views : List (View N)) (h : IsLawful fits shape words views) where
+module _ {N : Type 0} (fits : Shape → Entry N → Type 0) (shape : Shape) (words : Words)
+    (views : List (View N)) (h : IsLawful fits shape words views) where
   -- a view has no place where it has no right, so there are no more places than ranks
-  pub places-le-ranks : sum_by writers_of (map gate_of views) + sum_by wholes_of (map gate_of views) ≤ shape.ranks
+  pub places-le-ranks : sum_by writers_of (map gate_of views) + sum_by wholes_of
+      (map gate_of views) ≤ shape.ranks
   unfolding places_of
   places-le-ranks =
       omega (
@@ -107,11 +119,13 @@ module _ {N : Type 0} (fits : Shape → Entry N → Type 0) (shape : Shape) (wor
       )
 
   -- beside a view that is alone no other has a place
-  pub alone_places : (id : ℕ) (view : View N) (count : GatePlace → ℕ) → get_elem? views id ≡ some view → IsAlone shape view → count Outside ≡ 0
+  pub alone_places : (id : ℕ) (view : View N) (count : GatePlace → ℕ)
+      → get_elem? views id ≡ some view → IsAlone shape view → count Outside ≡ 0
       → sum_by count (map gate_of views) ≡ count view.gate
   alone_places id view count there alone zero_outside =
       sum_by-of_map gate_of count views
       ∙ sum_of_one (λ (v : View N). count v.gate) views id view there
       (λ j other ne found.
-      let no_right = others_are_spent shape (words Commit) views id j view other h.holds.rights there alone ne found in
+      let no_right = others_are_spent shape
+      (words Commit) views id j view other h.holds.rights there alone ne found in
       ap (λ (v : View N). count v.gate) (h.holds.spent j other found no_right) ∙ zero_outside)

@@ -21,16 +21,20 @@ use Rattle.window_rule.proofs.GateKept.{gate_of}
 use Rattle.window_rule.proofs.GetSteps.{known_kept}
 use Rattle.window_rule.proofs.LengthRead.{still_known}
 
-module _ {N : Type 0} (fits : Shape → Entry N → Type 0) (shape : Shape) (words : Words) (views : List (View N)) (lawful : IsLawful fits shape words views) where
+module _ {N : Type 0} (fits : Shape → Entry N → Type 0) (shape : Shape) (words : Words)
+    (views : List (View N)) (lawful : IsLawful fits shape words views) where
   pub marks_exclude : MarkExcludes views shape
   marks_exclude object block id other one two are marked =
-      mark_excludes shape (locks_in words) (map locks_of views) id other one.locks two.locks object lawful.holds.locks block
-      (at_map locks_of views id one are.first) (at_map locks_of views other two are.second) are.differ marked
+      mark_excludes shape (locks_in words)
+      (map locks_of views) id other one.locks two.locks object lawful.holds.locks block
+      (at_map locks_of views id one are.first)
+      (at_map locks_of views other two are.second) are.differ marked
 
   pub writers_exclude : WriterExcludes views
   writers_exclude id other one two are writer =
       writer_excludes (words Gate) (map gate_of views) id other two.gate lawful.holds.gate
-      (at_map gate_of views id one are.first ∙ ap some writer) (at_map gate_of views other two are.second)
+      (at_map gate_of views id one are.first ∙ ap some writer)
+      (at_map gate_of views other two are.second)
 
   pub has_history : HasHistory fits shape words views lawful
   has_history = let h = lawful.holds.history in record {
@@ -45,14 +49,17 @@ module _ {N : Type 0} (fits : Shape → Entry N → Type 0) (shape : Shape) (wor
       let h = lawful.holds in
       let standing = lawful.ground.objects object in
       let nobody : standing.writer ≡ None = is_none standing.writer (λ j e.
-      let none : dirt_of (get_or (dirts_of views) j []) object ≡ None = is_none (dirt_of (get_or (dirts_of views) j []) object) (λ dirt is.
+      let none : dirt_of (get_or (dirts_of views) j []) object ≡ None = is_none
+      (dirt_of (get_or (dirts_of views) j []) object) (λ dirt is.
       let found = dirty_view views j object dirt is in
       let same : None ≡ Some dirt = sym (clean j found.0 found.1) ∙ found.2 in
       cc same) in
-      subst (IsDirtOrNone (content_of (store_after lawful.ground.history) object) standing j) none (h.dirt j object) e) in (
+      subst (IsDirtOrNone (content_of (store_after lawful.ground.history) object) standing j) none
+      (h.dirt j object) e) in (
         standing.chain,
         record {
-          kept = subst (IsKept shape (sizes_in words) (data_in words) object standing.chain) (h.contents object block nobody) (h.objects object block);
+          kept = subst (IsKept shape (sizes_in words) (data_in words) object standing.chain)
+              (h.contents object block nobody) (h.objects object block);
           lies = h.lie object;
         },
       )
@@ -62,7 +69,8 @@ module _ {N : Type 0} (fits : Shape → Entry N → Type 0) (shape : Shape) (wor
       let h = lawful.holds in (
         record {
           kept = known_kept fits shape words views lawful.ground h id view there object known is;
-          lies = subst (LiesAt object) ((h.holdings id view there).read object known is).0.chain_is (h.lie object);
+          lies = subst (LiesAt object) ((h.holdings id view there).read object known is).0.chain_is
+              (h.lie object);
         },
         (still_known fits shape view words views id lawful.ground h there object known is).1,
       )
@@ -74,5 +82,6 @@ module _ {N : Type 0} (fits : Shape → Entry N → Type 0) (shape : Shape) (wor
         owner,
         h.each owner block
             ∙ share-here (is_block shape block) owner (is_block-true shape block is_b),
-        λ other ne. h.each other block ∙ share-none (is_block shape block) owner other (λ e. ne (sym e)),
+        λ other ne. h.each other block
+            ∙ share-none (is_block shape block) owner other (λ e. ne (sym e)),
       )

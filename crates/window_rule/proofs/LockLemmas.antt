@@ -37,70 +37,98 @@ place_cases p q =
 abbrev pub choose : Bool → Hold → Option Hold → Option Hold
 choose test hold other = cond test (Some hold) other
 
-pub hold_of-with_same : (locks : Locks) (object : Place) (hold : Hold) → hold_of (with_lock locks object hold) object ≡ Some hold
-hold_of-with_same locks object hold = ap (λ test. choose test hold (hold_of (without_lock locks object) object)) (same_place-refl object)
+pub hold_of-with_same : (locks : Locks) (object : Place) (hold : Hold)
+    → hold_of (with_lock locks object hold) object ≡ Some hold
+hold_of-with_same locks object hold = ap
+    (λ test. choose test hold (hold_of (without_lock locks object) object)) (same_place-refl object)
 
-without_step : (test other : Bool) (hold : Hold) (rest : Option Hold) → (other ≡ true → test ≡ false) → choose test hold rest ≡ cond other (choose test hold rest) (choose test hold rest)
+without_step : (test other : Bool) (hold : Hold) (rest : Option Hold)
+    → (other ≡ true → test ≡ false)
+    → choose test hold rest ≡ cond other (choose test hold rest) (choose test hold rest)
 without_step test true hold rest h = refl
 without_step test false hold rest h = refl
 
-pub hold_of-without_other : (locks : Locks) (object other : Place) → other ≢ object → hold_of (without_lock locks object) other ≡ hold_of locks other
+pub hold_of-without_other : (locks : Locks) (object other : Place) → other ≢ object
+    → hold_of (without_lock locks object) other ≡ hold_of locks other
 hold_of-without_other [] object other ne = refl
 hold_of-without_other (one ∷ more) object other ne =
     let rest = hold_of-without_other more object other ne in
     elim (place_cases one.0 object) [
       | inl same ↦
-          let here : same_place one.0 object ≡ true = ap (λ p. same_place p object) same ∙ same_place-refl object in
-          let elsewhere : same_place one.0 other ≡ false = same_place-false one.0 other (λ e. ne (sym e ∙ same)) in
-          ap (λ test. hold_of (cond test (without_lock more object) (one ∷ without_lock more object)) other) here
+          let here : same_place one.0 object ≡ true = ap (λ p. same_place p object) same
+          ∙ same_place-refl object in
+          let elsewhere : same_place one.0 other ≡ false = same_place-false one.0 other
+          (λ e. ne (sym e ∙ same)) in
+          ap (λ test. hold_of
+          (cond test (without_lock more object) (one ∷ without_lock more object)) other) here
           ∙ (rest ∙ sym (ap (λ test. choose test one.1 (hold_of more other)) elsewhere))
       | inr differ ↦
-          ap (λ test. hold_of (cond test (without_lock more object) (one ∷ without_lock more object)) other) (same_place-false one.0 object differ)
+          ap (λ test. hold_of
+          (cond test (without_lock more object) (one ∷ without_lock more object)) other)
+          (same_place-false one.0 object differ)
           ∙ ap (choose (same_place one.0 other) one.1) rest
     ]
 
-pub hold_of-without_same : (locks : Locks) (object : Place) → hold_of (without_lock locks object) object ≡ None
+pub hold_of-without_same : (locks : Locks) (object : Place)
+    → hold_of (without_lock locks object) object ≡ None
 hold_of-without_same [] object = refl
 hold_of-without_same (one ∷ more) object =
     let rest = hold_of-without_same more object in
     elim (place_cases one.0 object) [
       | inl same ↦
-          let here : same_place one.0 object ≡ true = ap (λ p. same_place p object) same ∙ same_place-refl object in
-          ap (λ test. hold_of (cond test (without_lock more object) (one ∷ without_lock more object)) object) here ∙ rest
+          let here : same_place one.0 object ≡ true = ap (λ p. same_place p object) same
+          ∙ same_place-refl object in
+          ap (λ test. hold_of
+          (cond test (without_lock more object) (one ∷ without_lock more object)) object)
+          here ∙ rest
       | inr differ ↦
           let elsewhere = same_place-false one.0 object differ in
-          ap (λ test. hold_of (cond test (without_lock more object) (one ∷ without_lock more object)) object) elsewhere
-          ∙ (ap (λ test. choose test one.1 (hold_of (without_lock more object) object)) elsewhere ∙ rest)
+          ap (λ test. hold_of
+          (cond test (without_lock more object) (one ∷ without_lock more object)) object)
+          elsewhere
+          ∙ (ap (λ test. choose test one.1 (hold_of (without_lock more object) object))
+          elsewhere ∙ rest)
     ]
 
-pub hold_of-with_other : (locks : Locks) (object other : Place) (hold : Hold) → other ≢ object → hold_of (with_lock locks object hold) other ≡ hold_of locks other
+pub hold_of-with_other : (locks : Locks) (object other : Place) (hold : Hold) → other ≢ object
+    → hold_of (with_lock locks object hold) other ≡ hold_of locks other
 hold_of-with_other locks object other hold ne =
-    ap (λ test. choose test hold (hold_of (without_lock locks object) other)) (same_place-false object other (λ e. ne (sym e)))
+    ap (λ test. choose test hold (hold_of (without_lock locks object) other))
+    (same_place-false object other (λ e. ne (sym e)))
     ∙ hold_of-without_other locks object other ne
 
 -- to take away a lock that is not there changes nothing
-pub without_lock-unlocked : (locks : Locks) (object : Place) → hold_of locks object ≡ None → without_lock locks object ≡ locks
+pub without_lock-unlocked : (locks : Locks) (object : Place) → hold_of locks object ≡ None
+    → without_lock locks object ≡ locks
 without_lock-unlocked [] object h = refl
 without_lock-unlocked (one ∷ more) object h =
     elim (place_cases one.0 object) [
       | inl same ↦
-          let here : same_place one.0 object ≡ true = ap (λ p. same_place p object) same ∙ same_place-refl object in
-          let found : Some one.1 ≡ None = sym (ap (λ test. choose test one.1 (hold_of more object)) here) ∙ h in
+          let here : same_place one.0 object ≡ true = ap (λ p. same_place p object) same
+          ∙ same_place-refl object in
+          let found : Some one.1 ≡ None = sym
+          (ap (λ test. choose test one.1 (hold_of more object)) here) ∙ h in
           absurd (cc found)
       | inr differ ↦
           let elsewhere = same_place-false one.0 object differ in
-          let rest : hold_of more object ≡ None = sym (ap (λ test. choose test one.1 (hold_of more object)) elsewhere) ∙ h in
-          ap (λ test. cond test (without_lock more object) (one ∷ without_lock more object)) elsewhere
+          let rest : hold_of more object ≡ None = sym
+          (ap (λ test. choose test one.1 (hold_of more object)) elsewhere) ∙ h in
+          ap (λ test. cond test (without_lock more object) (one ∷ without_lock more object))
+          elsewhere
           ∙ ap (λ rest. one ∷ rest) (without_lock-unlocked more object rest)
     ]
 
-pub without_lock-twice : (locks : Locks) (object : Place) → without_lock (without_lock locks object) object ≡ without_lock locks object
-without_lock-twice locks object = without_lock-unlocked (without_lock locks object) object (hold_of-without_same locks object)
+pub without_lock-twice : (locks : Locks) (object : Place)
+    → without_lock (without_lock locks object) object ≡ without_lock locks object
+without_lock-twice locks object = without_lock-unlocked (without_lock locks object) object
+    (hold_of-without_same locks object)
 
 -- a lock that was put and taken away again
-pub without_lock-with_lock : (locks : Locks) (object : Place) (hold : Hold) → hold_of locks object ≡ None → without_lock (with_lock locks object hold) object ≡ locks
+pub without_lock-with_lock : (locks : Locks) (object : Place) (hold : Hold)
+    → hold_of locks object ≡ None → without_lock (with_lock locks object hold) object ≡ locks
 without_lock-with_lock locks object hold h =
-    ap (λ test. cond test (without_lock (without_lock locks object) object) ((object, hold) ∷ without_lock (without_lock locks object) object)) (same_place-refl object)
+    ap (λ test. cond test (without_lock (without_lock locks object) object)
+    ((object, hold) ∷ without_lock (without_lock locks object) object)) (same_place-refl object)
     ∙ (without_lock-twice locks object ∙ without_lock-unlocked locks object h)
 
 pub lasting-le-shares : (hold : Option Hold) → lasting_of hold ≤ shares_of hold
@@ -122,8 +150,12 @@ no_mark_beside (Some Marked) h = absurd (omega arith)
 no_mark_beside (Some Returning) h = refl
 
 -- once a refused share is taken back, the locks are as before
-pub refused_is_unlocked : {N : Type 0} (object : Place) (want : Want) (word : ℕ) (view : View N) → hold_of view.locks object ≡ None
-    → returned object (refused (OfObject object) want word (tried (locked object Returning view))) ≡ refused (OfObject object) want word (tried view)
+pub refused_is_unlocked : {N : Type 0} (object : Place) (want : Want) (word : ℕ) (view : View N)
+    → hold_of view.locks object ≡ None
+    → returned object
+    (refused (OfObject object) want word (tried (locked object Returning view))) ≡ refused
+    (OfObject object) want word (tried view)
 refused_is_unlocked {N} object want word view h =
     let after : View N = refused (OfObject object) want word (tried view) in
-    ap (λ (locks : Locks). record after { locks = locks }) (without_lock-with_lock view.locks object Returning h)
+    ap (λ (locks : Locks). record after { locks = locks })
+    (without_lock-with_lock view.locks object Returning h)

@@ -44,8 +44,10 @@ use Rattle.window_rule.proofs.WordFunctions.{words_in-word}
 use Rattle.window_rule.specs.Opening.{rising_blocks, first_list, first_note, first_view, first_word_of, set_so_far, AreWords, first_next, first_head_word, order_of}
 
 -- one word is set
-pub AreWords-set : (shape : Shape) (words : List ℕ) (said after : Word → ℕ) (word : Word) (new : ℕ) → AreWords shape words said → IsWord shape word
-    → after word ≡ new → ((other : Word) → IsWord shape other → other ≢ word → after other ≡ said other)
+pub AreWords-set : (shape : Shape) (words : List ℕ) (said after : Word → ℕ) (word : Word) (new : ℕ)
+    → AreWords shape words said → IsWord shape word
+    → after word ≡ new
+    → ((other : Word) → IsWord shape other → other ≢ word → after other ≡ said other)
     → AreWords shape (set words (number_of shape word) new) after
 AreWords-set shape words said after word new h is_word here elsewhere = record {
   all = length-set words (number_of shape word) new ∙ h.all;
@@ -56,7 +58,8 @@ AreWords-set shape words said after word new h is_word here elsewhere = record {
         ∙ (word_in-set_same shape words word new h.all is_word ∙ (sym here ∙ ap after (sym equal)))
     | inr differ ↦
         let ne : other ≢ word = λ e. differ (ap (number_of shape) e) in
-        word_in-set_other shape words word other new is_word is_other ne ∙ (h.each other is_other ∙ sym (elsewhere other is_other ne))
+        word_in-set_other shape words word other new is_word is_other ne
+        ∙ (h.each other is_other ∙ sym (elsewhere other is_other ne))
   ];
 }
 
@@ -71,41 +74,53 @@ zero_said shape (Head rank) = grind (arith, nat_tests)
 zero_said shape Gate = refl
 zero_said shape Commit = refl
 
-pub AreWords-zero : (shape : Shape) → AreWords shape (replicate (window_words shape) 0) (set_so_far shape 0 0)
+pub AreWords-zero : (shape : Shape)
+    → AreWords shape (replicate (window_words shape) 0) (set_so_far shape 0 0)
 AreWords-zero shape = record {
   all = length-replicate (window_words shape) 0;
-  each = λ word is_word. get_or-replicate (window_words shape) (number_of shape word) 0 0 (number_of-lt shape word is_word) ∙ sym (zero_said shape word);
+  each = λ word is_word. get_or-replicate (window_words shape) (number_of shape word) 0 0
+      (number_of-lt shape word is_word) ∙ sym (zero_said shape word);
 }
 
 -- one more head
-head_elsewhere : (shape : Shape) (heads : ℕ) (other : Word) → other ≢ Head heads → set_so_far shape (heads + 1) 0 other ≡ set_so_far shape heads 0 other
+head_elsewhere : (shape : Shape) (heads : ℕ) (other : Word) → other ≢ Head heads
+    → set_so_far shape (heads + 1) 0 other ≡ set_so_far shape heads 0 other
 head_elsewhere shape heads (Lock object) ne = refl
 head_elsewhere shape heads (Length object) ne = refl
 head_elsewhere shape heads (FreeList block) ne = refl
 head_elsewhere shape heads (Stamp object) ne = refl
 head_elsewhere shape heads (Data block i) ne = refl
-head_elsewhere shape heads (Head rank) ne = let differ : rank ≢ heads = λ e. ne (ap Head e) in grind (arith, nat_tests)
+head_elsewhere shape heads (Head rank) ne = let differ : rank ≢ heads = λ e. ne (ap Head e) in grind
+    (arith, nat_tests)
 head_elsewhere shape heads Gate ne = refl
 head_elsewhere shape heads Commit ne = refl
 
-pub AreWords-head : (shape : Shape) (words : List ℕ) (heads : ℕ) → heads < shape.ranks → AreWords shape words (set_so_far shape heads 0)
-    → AreWords shape (set words (number_of shape (Head heads)) (first_head_word shape)) (set_so_far shape (heads + 1) 0)
+pub AreWords-head : (shape : Shape) (words : List ℕ) (heads : ℕ) → heads < shape.ranks
+    → AreWords shape words (set_so_far shape heads 0)
+    → AreWords shape (set words (number_of shape (Head heads)) (first_head_word shape))
+    (set_so_far shape (heads + 1) 0)
 AreWords-head shape words heads below h =
-    AreWords-set shape words (set_so_far shape heads 0) (set_so_far shape (heads + 1) 0) (Head heads) (first_head_word shape) h below
+    AreWords-set shape words (set_so_far shape heads 0) (set_so_far shape (heads + 1) 0)
+    (Head heads) (first_head_word shape) h below
     (ap (λ test. cond test (first_head_word shape) 0) (lt-ltb heads (heads + 1) (omega arith)))
     (λ other is_other ne. head_elsewhere shape heads other ne)
 
 -- what is set below a place is set below the next one, but at that place
-order_moves : (order limit next : ℕ) → order ≢ limit → cond (ltb order (limit + 1)) next 0 ≡ cond (ltb order limit) next 0
+order_moves : (order limit next : ℕ) → order ≢ limit
+    → cond (ltb order (limit + 1)) next 0 ≡ cond (ltb order limit) next 0
 order_moves order limit next differ = grind (arith, nat_tests)
 
 -- one more block of a free list
-block_elsewhere : (shape : Shape) (heads : ℕ) (block : Place) (other : Word) → IsBlock shape block → IsWord shape other → other ≢ FreeList block
-    → set_so_far shape heads (order_of shape block + 1) other ≡ set_so_far shape heads (order_of shape block) other
+block_elsewhere : (shape : Shape) (heads : ℕ) (block : Place) (other : Word) → IsBlock shape block
+    → IsWord shape other → other ≢ FreeList block
+    → set_so_far shape heads (order_of shape block + 1) other ≡ set_so_far shape heads
+    (order_of shape block) other
 block_elsewhere shape heads block (Lock object) is_block is_other ne = refl
 block_elsewhere shape heads block (Length object) is_block is_other ne = refl
 block_elsewhere shape heads block (FreeList other) is_block is_other ne =
-    let differ : order_of shape other ≢ order_of shape block = λ e. ne (same_from_number_of shape (FreeList other) (FreeList block) is_other is_block (ap (λ n. n * (shape.words + 4) + 2) e)) in
+    let differ : order_of shape other ≢ order_of shape block = λ e. ne
+    (same_from_number_of shape (FreeList other) (FreeList block) is_other is_block
+    (ap (λ n. n * (shape.words + 4) + 2) e)) in
     order_moves (order_of shape other) (order_of shape block) (first_next shape other.block) differ
 block_elsewhere shape heads block (Stamp object) is_block is_other ne = refl
 block_elsewhere shape heads block (Data other i) is_block is_other ne = refl
@@ -113,29 +128,41 @@ block_elsewhere shape heads block (Head rank) is_block is_other ne = refl
 block_elsewhere shape heads block Gate is_block is_other ne = refl
 block_elsewhere shape heads block Commit is_block is_other ne = refl
 
-pub AreWords-block : (shape : Shape) (words : List ℕ) (heads next : ℕ) (block : Place) → IsBlock shape block → next ≡ order_of shape block + 1
+pub AreWords-block : (shape : Shape) (words : List ℕ) (heads next : ℕ) (block : Place)
+    → IsBlock shape block → next ≡ order_of shape block + 1
     → AreWords shape words (set_so_far shape heads (order_of shape block))
-    → AreWords shape (set words (number_of shape (FreeList block)) (first_next shape block.block)) (set_so_far shape heads next)
+    → AreWords shape (set words (number_of shape (FreeList block)) (first_next shape block.block))
+    (set_so_far shape heads next)
 AreWords-block shape words heads next block is_block next_is h =
-    AreWords-set shape words (set_so_far shape heads (order_of shape block)) (set_so_far shape heads next) (FreeList block) (first_next shape block.block) h is_block
-    (ap (λ test. cond test (first_next shape block.block) 0) (lt-ltb (order_of shape block) next (omega arith)))
-    (λ other is_other ne. ap (λ n. set_so_far shape heads n other) next_is ∙ block_elsewhere shape heads block other is_block is_other ne)
+    AreWords-set shape words (set_so_far shape heads (order_of shape block))
+    (set_so_far shape heads next) (FreeList block) (first_next shape block.block) h is_block
+    (ap (λ test. cond test (first_next shape block.block) 0)
+    (lt-ltb (order_of shape block) next (omega arith)))
+    (λ other is_other ne. ap (λ n. set_so_far shape heads n other) next_is
+    ∙ block_elsewhere shape heads block other is_block is_other ne)
 
 -- once all are set
-all_said : (shape : Shape) (word : Word) → IsWord shape word → set_so_far shape shape.ranks (shape.ranks * shape.blocks) word ≡ first_word_of shape word
+all_said : (shape : Shape) (word : Word) → IsWord shape word
+    → set_so_far shape shape.ranks (shape.ranks * shape.blocks) word ≡ first_word_of shape word
 all_said shape (Lock object) h = refl
 all_said shape (Length object) h = refl
 all_said shape (FreeList block) h =
-    let below : order_of shape block < shape.ranks * shape.blocks = omega (arith, mul-add-lt block.rank shape.blocks block.block shape.ranks h.0 h.1) in
-    ap (λ test. cond test (first_next shape block.block) 0) (lt-ltb (order_of shape block) (shape.ranks * shape.blocks) below)
+    let below : order_of shape block < shape.ranks * shape.blocks = omega
+    (arith, mul-add-lt block.rank shape.blocks block.block shape.ranks h.0 h.1) in
+    ap (λ test. cond test (first_next shape block.block) 0)
+    (lt-ltb (order_of shape block) (shape.ranks * shape.blocks) below)
 all_said shape (Stamp object) h = refl
 all_said shape (Data block i) h = refl
-all_said shape (Head rank) h = ap (λ test. cond test (first_head_word shape) 0) (lt-ltb rank shape.ranks h)
+all_said shape (Head rank) h = ap (λ test. cond test (first_head_word shape) 0)
+    (lt-ltb rank shape.ranks h)
 all_said shape Gate h = refl
 all_said shape Commit h = refl
 
-pub AreWords-all : (shape : Shape) (words : List ℕ) → AreWords shape words (set_so_far shape shape.ranks (shape.ranks * shape.blocks)) → AreWords shape words (first_word_of shape)
-AreWords-all shape words h = record { all = h.all; each = λ word is_word. h.each word is_word ∙ all_said shape word is_word }
+pub AreWords-all : (shape : Shape) (words : List ℕ)
+    → AreWords shape words (set_so_far shape shape.ranks (shape.ranks * shape.blocks))
+    → AreWords shape words (first_word_of shape)
+AreWords-all shape words h =
+    record { all = h.all; each = λ word is_word. h.each word is_word ∙ all_said shape word is_word }
 
 abbrev one_at : ℕ → ℕ → ℕ
 one_at right rank = cond (eqb right rank) 1 0
@@ -147,7 +174,8 @@ counts_none start (suc n) rank h =
     let here : one_at start rank ≡ 0 = grind (arith, nat_tests) in
     omega (arith, sum_by-cons (λ right. one_at right rank) start (range_with_len (start + 1) n))
 
-counts_one : (start n rank : ℕ) → start ≤ rank → rank < n + start → right_count rank (range_with_len start n) ≡ 1
+counts_one : (start n rank : ℕ) → start ≤ rank → rank < n + start
+    → right_count rank (range_with_len start n) ≡ 1
 counts_one start zero rank low high = absurd (omega arith)
 counts_one start (suc n) rank low high =
     let cons = sum_by-cons (λ right. one_at right rank) start (range_with_len (start + 1) n) in
@@ -166,10 +194,14 @@ are_ranks : (ranks start n : ℕ) → start + n ≤ ranks → AreRanks ranks (ra
 are_ranks ranks start zero h = tt
 are_ranks ranks start (suc n) h = (omega arith, are_ranks ranks (start + 1) n (omega arith))
 
-each_rank : {X : Type 0} (P : X → Type 0) (f : ℕ → X) (start n : ℕ) → ((rank : ℕ) → start ≤ rank → rank < start + n → P (f rank))
+each_rank : {X : Type 0} (P : X → Type 0) (f : ℕ → X) (start n : ℕ)
+    → ((rank : ℕ) → start ≤ rank → rank < start + n → P (f rank))
     → AllByRecursion P (map f (range_with_len start n))
 each_rank P f start zero h = tt
-each_rank P f start (suc n) h = (h start (omega arith) (omega arith), each_rank P f (start + 1) n (λ rank low high. h rank (omega arith) (omega arith)))
+each_rank P f start (suc n) h = (
+  h start (omega arith) (omega arith),
+  each_rank P f (start + 1) n (λ rank low high. h rank (omega arith) (omega arith)),
+)
 
 note_from : (shape : Shape) (start n rank : ℕ) → start ≤ rank → rank < start + n
     → note_of (map (first_note shape) (range_with_len start n)) rank ≡ Some (first_note shape rank)
@@ -178,19 +210,23 @@ note_from shape start (suc n) rank low high =
     elim (cases_eq start rank) [
       | inl same ↦
           let test : (start == rank) ≡ true = grind (arith, nat_tests) in
-          ap (λ t. cond t (Some (first_note shape start)) (note_of (map (first_note shape) (range_with_len (start + 1) n)) rank)) test
+          ap (λ t. cond t (Some (first_note shape start))
+          (note_of (map (first_note shape) (range_with_len (start + 1) n)) rank)) test
           ∙ ap (λ r. Some (first_note shape r)) same
       | inr ne ↦
           let test : (start == rank) ≡ false = grind (arith, nat_tests) in
-          ap (λ t. cond t (Some (first_note shape start)) (note_of (map (first_note shape) (range_with_len (start + 1) n)) rank)) test
+          ap (λ t. cond t (Some (first_note shape start))
+          (note_of (map (first_note shape) (range_with_len (start + 1) n)) rank)) test
           ∙ note_from shape (start + 1) n rank (omega arith) (omega arith)
     ]
 
 -- and it has noted each free list
-pub first_lists : {N : Type 0} (shape : Shape) (view : View N) → view ≡ first_view {N = N} shape → (rank : ℕ) → rank < shape.ranks
+pub first_lists : {N : Type 0} (shape : Shape) (view : View N) → view ≡ first_view {N = N} shape
+    → (rank : ℕ) → rank < shape.ranks
     → note_of view.notes rank ≡ Some (first_note shape rank)
 first_lists shape view first rank below =
-    ap (λ v. note_of v.notes rank) first ∙ note_from shape 0 shape.ranks rank (omega arith) (omega arith)
+    ap (λ v. note_of v.notes rank) first
+    ∙ note_from shape 0 shape.ranks rank (omega arith) (omega arith)
 
 some_rank : (ranks : ℕ) → 1 ≤ ranks → range_with_len 0 ranks ≢ []
 some_rank zero h e = omega arith
@@ -200,73 +236,98 @@ first_of_one : {X : Type 0} (x y : X) (id : ℕ) → get_elem? (x ∷ []) id ≡
 first_of_one x y zero e = some-injective x y e
 first_of_one x y (suc id) e = absurd (some-ne-none y (sym e))
 
-times-none : (rank start n : ℕ) (block : Place) → (block.rank ≢ rank) ⊎ (block.block < start) → times block (rising_blocks rank start n) ≡ 0
+times-none : (rank start n : ℕ) (block : Place) → (block.rank ≢ rank) ⊎ (block.block < start)
+    → times block (rising_blocks rank start n) ≡ 0
 times-none rank start zero block h = refl
 times-none rank start (suc n) block h =
-    let here : one_if (same_place (record { rank = rank; block = start }) block) ≡ 0 = grind (arith, nat_tests) in
-    let rest = times-none rank (start + 1) n block (elim h [ inl a ↦ inl a | inr b ↦ inr (omega arith) ]) in
+    let here : one_if (same_place (record { rank = rank; block = start }) block) ≡ 0 = grind
+    (arith, nat_tests) in
+    let rest = times-none rank (start + 1) n block
+    (elim h [ inl a ↦ inl a | inr b ↦ inr (omega arith) ]) in
     omega arith
 
-times-past : (rank start n : ℕ) (block : Place) → start + n ≤ block.block → times block (rising_blocks rank start n) ≡ 0
+times-past : (rank start n : ℕ) (block : Place) → start + n ≤ block.block
+    → times block (rising_blocks rank start n) ≡ 0
 times-past rank start zero block h = refl
 times-past rank start (suc n) block h =
-    let here : one_if (same_place (record { rank = rank; block = start }) block) ≡ 0 = grind (arith, nat_tests) in
+    let here : one_if (same_place (record { rank = rank; block = start }) block) ≡ 0 = grind
+    (arith, nat_tests) in
     let rest = times-past rank (start + 1) n block (omega arith) in
     omega arith
 
-times-one : (rank start n : ℕ) (block : Place) → block.rank ≡ rank → start ≤ block.block → block.block < start + n → times block (rising_blocks rank start n) ≡ 1
+times-one : (rank start n : ℕ) (block : Place) → block.rank ≡ rank → start ≤ block.block
+    → block.block < start + n → times block (rising_blocks rank start n) ≡ 1
 times-one rank start zero block on low high = absurd (omega arith)
 times-one rank start (suc n) block on low high =
     elim (cases_eq start block.block) [
       | inl e ↦
-          let here : one_if (same_place (record { rank = rank; block = start }) block) ≡ 1 = grind (arith, nat_tests) in
+          let here : one_if (same_place (record { rank = rank; block = start }) block) ≡ 1 = grind
+          (arith, nat_tests) in
           let rest = times-none rank (start + 1) n block (inr (omega arith)) in
           omega arith
       | inr ne ↦
-          let here : one_if (same_place (record { rank = rank; block = start }) block) ≡ 0 = grind (arith, nat_tests) in
+          let here : one_if (same_place (record { rank = rank; block = start }) block) ≡ 0 = grind
+          (arith, nat_tests) in
           let rest = times-one rank (start + 1) n block on (omega arith) (omega arith) in
           omega arith
     ]
 
-one_rank_of : (rank start n : ℕ) → AllByRecursion (λ (block : Place). block.rank ≡ rank) (rising_blocks rank start n)
+one_rank_of : (rank start n : ℕ)
+    → AllByRecursion (λ (block : Place). block.rank ≡ rank) (rising_blocks rank start n)
 one_rank_of rank start zero = tt
 one_rank_of rank start (suc n) = (refl, one_rank_of rank (start + 1) n)
 
-number_of_first : (rank start n : ℕ) → number_to (rising_blocks rank start n) ≡ cond (ltb 0 n) start 0
+number_of_first : (rank start n : ℕ)
+    → number_to (rising_blocks rank start n) ≡ cond (ltb 0 n) start 0
 number_of_first rank start zero = refl
 number_of_first rank start (suc n) = sym (ap (λ t. cond t start 0) (lt-ltb 0 (suc n) (omega arith)))
 
-threaded_from : (shape : Shape) (nexts : Place → ℕ) (rank start n : ℕ) → reserved_blocks shape ≤ start → start + n ≡ shape.blocks
-    → ((block : ℕ) → block < shape.blocks → nexts (place_on rank block) ≡ first_next shape block) → AreThreaded nexts (rising_blocks rank start n)
+threaded_from : (shape : Shape) (nexts : Place → ℕ) (rank start n : ℕ)
+    → reserved_blocks shape ≤ start → start + n ≡ shape.blocks
+    → ((block : ℕ) → block < shape.blocks → nexts (place_on rank block) ≡ first_next shape block)
+    → AreThreaded nexts (rising_blocks rank start n)
 threaded_from shape nexts rank start zero low high h = tt
 threaded_from shape nexts rank start (suc n) low high h = (
-  h start (omega arith) ∙ (let next : first_next shape start ≡ cond (ltb 0 n) (start + 1) 0 = grind (arith, nat_tests) in next ∙ sym (number_of_first rank (start + 1) n)),
+  h start (omega arith)
+      ∙ (let next : first_next shape start ≡ cond (ltb 0 n) (start + 1) 0 = grind
+      (arith, nat_tests) in next ∙ sym (number_of_first rank (start + 1) n)),
   threaded_from shape nexts rank (start + 1) n (omega arith) (omega arith) h,
 )
 
 abbrev first_ground : {N : Type 0} → Shape → Ground N
 first_ground shape = record {
   history = [];
-  objects = λ object. record { writer = None; chain = cond (is_reserved shape object.block && is_block shape object) (object ∷ []) []; content = Some [] };
+  objects = λ object.
+      record {
+        writer = None;
+        chain = cond (is_reserved shape object.block && is_block shape object) (object ∷ []) [];
+        content = Some [];
+      };
   free = λ rank. cond (ltb rank shape.ranks) (first_list shape rank) [];
   owner = λ block. cond (is_reserved shape block.block) (Within block) (FreeOf block.rank);
   opener = λ object. None;
 }
 
-no_dirt : (N : Type 0) (shape : Shape) (id : ℕ) (object : Place) → dirt_of (get_or (dirts_of (first_view {N = N} shape ∷ [])) id []) object ≡ None
+no_dirt : (N : Type 0) (shape : Shape) (id : ℕ) (object : Place)
+    → dirt_of (get_or (dirts_of (first_view {N = N} shape ∷ [])) id []) object ≡ None
 no_dirt N shape zero object = refl
 no_dirt N shape (suc id) object = refl
 
-none_open : (N : Type 0) (shape : Shape) (id : ℕ) (object : Place) → opened_of (get_or (opened_lists (first_view {N = N} shape ∷ [])) id []) object ≡ None
+none_open : (N : Type 0) (shape : Shape) (id : ℕ) (object : Place)
+    → opened_of (get_or (opened_lists (first_view {N = N} shape ∷ [])) id []) object ≡ None
 none_open N shape zero object = refl
 none_open N shape (suc id) object = refl
 
-first_only : {N A : Type 0} (shape : Shape) (part : View N → A) (Holds : ℕ → A → Type 0) → Holds 0 (part (first_view {N = N} shape)) → EachView part Holds (first_view {N = N} shape ∷ [])
-first_only {N} shape part Holds h zero view there = subst (λ (v : View N). Holds 0 (part v)) (some-injective (first_view shape) view there) h
+first_only : {N A : Type 0} (shape : Shape) (part : View N → A) (Holds : ℕ → A → Type 0)
+    → Holds 0 (part (first_view {N = N} shape))
+    → EachView part Holds (first_view {N = N} shape ∷ [])
+first_only {N} shape part Holds h zero view there = subst (λ (v : View N). Holds 0 (part v))
+    (some-injective (first_view shape) view there) h
 first_only {N} shape part Holds h (suc id) view there = absurd (some-ne-none view (sym there))
 
 one_block : (per : ℕ) → 0 < per → blocks_for 0 per ≡ 1
-one_block per positive = let none : (0 + (per - 1)) / per < 1 = div_below (0 + (per - 1)) per 1 positive (omega arith) in omega arith
+one_block per positive = let none : (0 + (per - 1)) / per < 1 = div_below
+    (0 + (per - 1)) per 1 positive (omega arith) in omega arith
 
 flip : (a b here : Bool) → (a && b) ≡ here → one_if (b && (a && true)) ≡ one_if here
 flip true true here e = ap one_if e
@@ -279,33 +340,43 @@ and_none true true = refl
 and_none true false = refl
 and_none false b = refl
 
-times_itself : (object : Place) (here : Bool) → times object (cond here (object ∷ []) []) ≡ one_if here
-times_itself object true = let one : one_if (same_place object object) ≡ 1 = ap one_if (same_place-refl object) in omega arith
+times_itself : (object : Place) (here : Bool)
+    → times object (cond here (object ∷ []) []) ≡ one_if here
+times_itself object true = let one : one_if (same_place object object) ≡ 1 = ap one_if
+    (same_place-refl object) in omega arith
 times_itself object false = refl
 
-times_other : (object block : Place) (here : Bool) → block ≢ object → times block (cond here (object ∷ []) []) ≡ 0
-times_other object block true ne = let none : one_if (same_place object block) ≡ 0 = ap one_if (same_place-false object block (λ e. ne (sym e))) in omega arith
+times_other : (object block : Place) (here : Bool) → block ≢ object
+    → times block (cond here (object ∷ []) []) ≡ 0
+times_other object block true ne = let none : one_if (same_place object block) ≡ 0 = ap one_if
+    (same_place-false object block (λ e. ne (sym e))) in omega arith
 times_other object block false ne = refl
 
 mod_small : (n : ℕ) → n ≤ 1048575 → n % 2 ^ 20 ≡ n
 mod_small n h = omega arith
 
-with_free : (inside low : Bool) (block : Place) (rank : ℕ) → one_if (inside && same_holder (cond low (Within block) (FreeOf block.rank)) (FreeOf rank)) ≡ one_if (inside && (not low && block.rank == rank))
+with_free : (inside low : Bool) (block : Place) (rank : ℕ)
+    → one_if (inside && same_holder (cond low (Within block) (FreeOf block.rank)) (FreeOf rank))
+    ≡ one_if (inside && (not low && block.rank == rank))
 with_free true true block rank = refl
 with_free true false block rank = refl
 with_free false low block rank = refl
 
-with_none : (inside low : Bool) (block : Place) (id : ℕ) → one_if (inside && same_holder (cond low (Within block) (FreeOf block.rank)) (OwnOf id)) ≡ 0
+with_none : (inside low : Bool) (block : Place) (id : ℕ)
+    → one_if (inside && same_holder (cond low (Within block) (FreeOf block.rank)) (OwnOf id)) ≡ 0
 with_none true true block id = refl
 with_none true false block id = refl
 with_none false low block id = refl
 
-with_object : (inside low : Bool) (block object : Place) → one_if (inside && same_holder (cond low (Within block) (FreeOf block.rank)) (Within object)) ≡ one_if (inside && (low && same_place block object))
+with_object : (inside low : Bool) (block object : Place)
+    → one_if (inside && same_holder (cond low (Within block) (FreeOf block.rank)) (Within object))
+    ≡ one_if (inside && (low && same_place block object))
 with_object true true block object = refl
 with_object true false block object = refl
 with_object false low block object = refl
 
-module _ {N : Type 0} (fits : Shape → Entry N → Type 0) (shape : Shape) (words : List ℕ) (in_range : IsInRange shape) (h : AreWords shape words (first_word_of shape)) where
+module _ {N : Type 0} (fits : Shape → Entry N → Type 0) (shape : Shape) (words : List ℕ)
+    (in_range : IsInRange shape) (h : AreWords shape words (first_word_of shape)) where
   abbrev all : Words
   all = words_in shape words
 
@@ -318,13 +389,17 @@ module _ {N : Type 0} (fits : Shape → Entry N → Type 0) (shape : Shape) (wor
   is : (word : Word) → IsWord shape word → all word ≡ first_word_of shape word
   is word is_w = words_in-word shape words word is_w ∙ h.each word is_w
 
-  chain_here : (object : Place) → IsBlock shape object → (b : Bool) → is_reserved shape object.block ≡ b
-      → IsKeptIn shape (sizes_in all) (data_in all) object (cond (b && is_block shape object) (object ∷ []) []) []
+  chain_here : (object : Place) → IsBlock shape object → (b : Bool)
+      → is_reserved shape object.block ≡ b
+      → IsKeptIn shape (sizes_in all) (data_in all) object
+      (cond (b && is_block shape object) (object ∷ []) []) []
   chain_here object block true e =
-      subst (λ b. IsKeptIn shape (sizes_in all) (data_in all) object (cond b (object ∷ []) []) []) (sym (is_block-true shape object block)) (record {
+      subst (λ b. IsKeptIn shape (sizes_in all) (data_in all) object (cond b (object ∷ []) []) [])
+      (sym (is_block-true shape object block)) (record {
         size = is (Length object) block;
         few_words = omega arith;
-        blocks = sym (ap (λ b. cond (not b && is_empty []) 0 (blocks_for 0 (shape.words - 1))) e ∙ one_block (shape.words - 1) (omega (arith, in_range.words)));
+        blocks = sym (ap (λ b. cond (not b && is_empty []) 0 (blocks_for 0 (shape.words - 1))) e
+            ∙ one_block (shape.words - 1) (omega (arith, in_range.words)));
         linked = (is (Data object 0) (block, omega (arith, in_range.words)), tt);
         payload = λ k below. absurd (omega arith);
       })
@@ -346,12 +421,17 @@ module _ {N : Type 0} (fits : Shape → Entry N → Type 0) (shape : Shape) (wor
   next_below : (block : ℕ) → first_next shape block < 2 ^ 20
   next_below block =
       elim (cases_lt (block + 1) shape.blocks) [
-        | inl more ↦ elim (nat_le (reserved_blocks shape) block && nat_lt (block + 1) shape.blocks) as (λ (b : Bool). cond b (block + 1) 0 < 2 ^ 20) [ true ↦ omega (arith, in_range.blocks) | false ↦ omega arith ]
+        | inl more ↦ elim
+            (nat_le (reserved_blocks shape) block && nat_lt (block + 1) shape.blocks) as
+            (λ (b : Bool). cond b (block + 1) 0 < 2 ^ 20)
+            [ true ↦ omega (arith, in_range.blocks) | false ↦ omega arith ]
         | inr last ↦ let t : first_next shape block ≡ 0 = grind (arith, nat_tests) in omega arith
       ]
 
-  link_below : (block : Place) (b : Bool) → is_block shape block ≡ b → cond b (word_in shape words (FreeList block)) 0 < 2 ^ 20
-  link_below block true inside = let w = h.each (FreeList block) (is_block-tells shape block inside) in omega (arith, next_below block.block)
+  link_below : (block : Place) (b : Bool) → is_block shape block ≡ b
+      → cond b (word_in shape words (FreeList block)) 0 < 2 ^ 20
+  link_below block true inside = let w = h.each (FreeList block)
+      (is_block-tells shape block inside) in omega (arith, next_below block.block)
   link_below block false outside = omega arith
 
   free_list : (rank : ℕ) (b : Bool) → ltb rank shape.ranks ≡ b
@@ -359,15 +439,22 @@ module _ {N : Type 0} (fits : Shape → Entry N → Type 0) (shape : Shape) (wor
   free_list rank true e =
       let below : rank < shape.ranks = ltb-true rank shape.ranks e in
       let reserved = reserved_blocks shape in
-      let small : reserved % 2 ^ 20 ≡ reserved = mod_small reserved (omega (arith, in_range.blocks)) in
+      let small : reserved % 2 ^ 20 ≡ reserved = mod_small reserved
+      (omega (arith, in_range.blocks)) in
       record {
         first = ap first_of (is (Head rank) below) ∙ (elim (cases_lt reserved shape.blocks) [
           | inl some_free ↦
-              ap (λ t. first_of (cond t reserved 0)) (lt-ltb reserved shape.blocks some_free) ∙ (small ∙ sym (number_of_first rank reserved (shape.blocks - reserved) ∙ ap (λ t. cond t reserved 0) (lt-ltb 0 (shape.blocks - reserved) (omega arith))))
+              ap (λ t. first_of (cond t reserved 0)) (lt-ltb reserved shape.blocks some_free)
+              ∙ (small ∙ sym (number_of_first rank reserved (shape.blocks - reserved)
+              ∙ ap (λ t. cond t reserved 0) (lt-ltb 0 (shape.blocks - reserved) (omega arith))))
           | inr none_free ↦
-              ap (λ t. first_of (cond t reserved 0)) (le-ltb reserved shape.blocks none_free) ∙ sym (number_of_first rank reserved (shape.blocks - reserved) ∙ ap (λ t. cond t reserved 0) (le-ltb 0 (shape.blocks - reserved) (omega arith)))
+              ap (λ t. first_of (cond t reserved 0)) (le-ltb reserved shape.blocks none_free)
+              ∙ sym (number_of_first rank reserved (shape.blocks - reserved)
+              ∙ ap (λ t. cond t reserved 0) (le-ltb 0 (shape.blocks - reserved) (omega arith)))
         ]);
-        threaded = threaded_from shape (nexts_in all) rank reserved (shape.blocks - reserved) (omega arith) (omega (arith, in_range.blocks)) (λ block inside. is (FreeList (place_on rank block)) (below, inside));
+        threaded = threaded_from shape (nexts_in all) rank reserved (shape.blocks - reserved)
+            (omega arith) (omega (arith, in_range.blocks))
+            (λ block inside. is (FreeList (place_on rank block)) (below, inside));
         one_rank = one_rank_of rank reserved (shape.blocks - reserved);
       }
   free_list rank false e = record {
@@ -376,49 +463,85 @@ module _ {N : Type 0} (fits : Shape → Entry N → Type 0) (shape : Shape) (wor
     one_rank = tt;
   }
 
-  free_times : (rank : ℕ) (block : Place) → times block (ground.free rank) ≡ one_if (is_block shape block && (not (is_reserved shape block.block) && block.rank == rank))
+  free_times : (rank : ℕ) (block : Place)
+      → times block (ground.free rank) ≡ one_if
+      (is_block shape block && (not (is_reserved shape block.block) && block.rank == rank))
   free_times rank block =
       let reserved = reserved_blocks shape in
       let n = shape.blocks - reserved in
       elim (cases_lt rank shape.ranks) [
-        | inr past ↦ ap (λ t. times block (cond t (rising_blocks rank reserved n) [])) (le-ltb rank shape.ranks past) ∙ sym (let none : one_if (is_block shape block && (not (is_reserved shape block.block) && block.rank == rank)) ≡ 0 = grind (arith, nat_tests) in none)
-        | inl below ↦ ap (λ t. times block (cond t (rising_blocks rank reserved n) [])) (lt-ltb rank shape.ranks below) ∙ (elim (cases_eq block.rank rank) [
-          | inr ne ↦ times-none rank reserved n block (inl ne) ∙ sym (let none : one_if (is_block shape block && (not (is_reserved shape block.block) && block.rank == rank)) ≡ 0 = grind (arith, nat_tests) in none)
-          | inl on ↦ elim (cases_lt block.block reserved) [
-            | inl low ↦ times-none rank reserved n block (inr low) ∙ sym (let none : one_if (is_block shape block && (not (is_reserved shape block.block) && block.rank == rank)) ≡ 0 = grind (arith, nat_tests) in none)
-            | inr high ↦ elim (cases_lt block.block shape.blocks) [
-              | inl inside ↦ times-one rank reserved n block on high (omega arith) ∙ sym (let one : one_if (is_block shape block && (not (is_reserved shape block.block) && block.rank == rank)) ≡ 1 = grind (arith, nat_tests) in one)
-              | inr past ↦ times-past rank reserved n block (omega (arith, in_range.blocks)) ∙ sym (let none : one_if (is_block shape block && (not (is_reserved shape block.block) && block.rank == rank)) ≡ 0 = grind (arith, nat_tests) in none)
-            ]
-          ]
-        ])
+        | inr past ↦ ap (λ t. times block (cond t (rising_blocks rank reserved n) []))
+            (le-ltb rank shape.ranks past)
+            ∙ sym (let none : one_if
+            (is_block shape block && (not (is_reserved shape block.block) && block.rank == rank))
+            ≡ 0 = grind (arith, nat_tests) in none)
+        | inl below ↦ ap (λ t. times block (cond t (rising_blocks rank reserved n) []))
+            (lt-ltb rank shape.ranks below) ∙ (elim (cases_eq block.rank rank) [
+              | inr ne ↦ times-none rank reserved n block (inl ne)
+                  ∙ sym (let none : one_if
+                  (is_block shape block && (not (is_reserved shape block.block) && block.rank == rank))
+                  ≡ 0 = grind (arith, nat_tests) in none)
+              | inl on ↦ elim (cases_lt block.block reserved) [
+                | inl low ↦ times-none rank reserved n block (inr low)
+                    ∙ sym (let none : one_if
+                    (is_block shape block &&
+                    (not (is_reserved shape block.block) && block.rank == rank)) ≡ 0 = grind
+                    (arith, nat_tests) in none)
+                | inr high ↦ elim (cases_lt block.block shape.blocks) [
+                  | inl inside ↦ times-one rank reserved n block on high (omega arith)
+                      ∙ sym (let one : one_if
+                      (is_block shape block &&
+                      (not (is_reserved shape block.block) && block.rank == rank)) ≡ 1 = grind
+                      (arith, nat_tests) in one)
+                  | inr past ↦ times-past rank reserved n block (omega (arith, in_range.blocks))
+                      ∙ sym (let none : one_if
+                      (is_block shape block &&
+                      (not (is_reserved shape block.block) && block.rank == rank)) ≡ 0 = grind
+                      (arith, nat_tests) in none)
+                ]
+              ]
+            ])
       ]
 
-  object_times : (object block : Place) (here : Bool) → (is_reserved shape object.block && is_block shape object) ≡ here
-      → times block (cond here (object ∷ []) []) ≡ one_if (is_block shape block && (is_reserved shape block.block && same_place block object))
+  object_times : (object block : Place) (here : Bool)
+      → (is_reserved shape object.block && is_block shape object) ≡ here
+      → times block (cond here (object ∷ []) []) ≡ one_if
+      (is_block shape block && (is_reserved shape block.block && same_place block object))
   object_times object block here e =
       elim (place_cases block object) [
         | inl same ↦
             ap (λ p. times p (cond here (object ∷ []) [])) same
             ∙ (times_itself object here
             ∙ (sym (flip (is_reserved shape object.block) (is_block shape object) here e)
-            ∙ (ap (λ t. one_if (is_block shape object && (is_reserved shape object.block && t))) (sym (same_place-refl object))
-            ∙ sym (ap (λ p. one_if (is_block shape p && (is_reserved shape p.block && same_place p object))) same))))
+            ∙ (ap (λ t. one_if (is_block shape object && (is_reserved shape object.block && t)))
+            (sym (same_place-refl object))
+            ∙ sym (ap (λ p. one_if
+            (is_block shape p && (is_reserved shape p.block && same_place p object))) same))))
         | inr ne ↦
             times_other object block here ne
-            ∙ sym (ap (λ t. one_if (is_block shape block && (is_reserved shape block.block && t))) (same_place-false block object ne) ∙ and_none (is_block shape block) (is_reserved shape block.block))
+            ∙ sym (ap (λ t. one_if (is_block shape block && (is_reserved shape block.block && t)))
+            (same_place-false block object ne)
+            ∙ and_none (is_block shape block) (is_reserved shape block.block))
       ]
 
-  each_part : (holder : Holder) (block : Place) → times block (part_of ground.free (owns_of views) ground.objects holder) ≡ one_if (is_block shape block && same_holder (ground.owner block) holder)
-  each_part (FreeOf rank) block = free_times rank block ∙ sym (with_free (is_block shape block) (is_reserved shape block.block) block rank)
-  each_part (OwnOf zero) block = sym (with_none (is_block shape block) (is_reserved shape block.block) block zero)
-  each_part (OwnOf (suc id)) block = sym (with_none (is_block shape block) (is_reserved shape block.block) block (suc id))
-  each_part (Within object) block = object_times object block (is_reserved shape object.block && is_block shape object) refl ∙ sym (with_object (is_block shape block) (is_reserved shape block.block) block object)
+  each_part : (holder : Holder) (block : Place)
+      → times block (part_of ground.free (owns_of views) ground.objects holder) ≡ one_if
+      (is_block shape block && same_holder (ground.owner block) holder)
+  each_part (FreeOf rank) block = free_times rank block
+      ∙ sym (with_free (is_block shape block) (is_reserved shape block.block) block rank)
+  each_part (OwnOf zero) block = sym
+      (with_none (is_block shape block) (is_reserved shape block.block) block zero)
+  each_part (OwnOf (suc id)) block = sym
+      (with_none (is_block shape block) (is_reserved shape block.block) block (suc id))
+  each_part (Within object) block = object_times object block
+      (is_reserved shape object.block && is_block shape object) refl
+      ∙ sym (with_object (is_block shape block) (is_reserved shape block.block) block object)
 
   parted : IsPartition shape (part_of ground.free (owns_of views) ground.objects) ground.owner
   parted = record {
     each = each_part;
-    reserved = λ block is_b low. ap (λ t. cond t (Within block) (FreeOf block.rank)) (lt-ltb block.block (reserved_blocks shape) low);
+    reserved = λ block is_b low. ap (λ t. cond t (Within block) (FreeOf block.rank))
+        (lt-ltb block.block (reserved_blocks shape) low);
   }
 
   -- the tag of each head is 0
@@ -426,15 +549,19 @@ module _ {N : Type 0} (fits : Shape → Entry N → Type 0) (shape : Shape) (wor
   low_tag rank below =
       let head = is (Head rank) below in
       elim (cases_lt (reserved_blocks shape) shape.blocks) [
-        | inl some_free ↦ let first : first_head_word shape ≡ reserved_blocks shape = grind (arith, nat_tests) in omega (arith, in_range.blocks)
-        | inr none_free ↦ let first : first_head_word shape ≡ 0 = grind (arith, nat_tests) in omega arith
+        | inl some_free ↦ let first : first_head_word shape ≡ reserved_blocks shape = grind
+            (arith, nat_tests) in omega (arith, in_range.blocks)
+        | inr none_free ↦ let first : first_head_word shape ≡ 0 = grind (arith, nat_tests) in
+            omega arith
       ]
 
-  noted_first : (rank : ℕ) → 0 ≤ rank → rank < 0 + shape.ranks → IsNoted (heads_in all) ground.free (first_note shape rank)
+  noted_first : (rank : ℕ) → 0 ≤ rank → rank < 0 + shape.ranks
+      → IsNoted (heads_in all) ground.free (first_note shape rank)
   noted_first rank low high =
       let below : rank < shape.ranks = omega arith in
       let head = is (Head rank) below in
-      let same : tag_of (first_head_word shape) ≡ tag_of (heads_in all rank) = ap tag_of (sym head) in record {
+      let same : tag_of (first_head_word shape) ≡ tag_of (heads_in all rank) = ap tag_of
+      (sym head) in record {
         tag = omega (arith, same);
         same = λ _. record {
           head = sym head;
@@ -446,20 +573,38 @@ module _ {N : Type 0} (fits : Shape → Entry N → Type 0) (shape : Shape) (wor
   pub opening_holds : Holds fits shape all views ground
   opening_holds = record {
     rights = record {
-      each_once = λ rank below. omega (arith, counts_one 0 shape.ranks rank (omega arith) (omega arith), sum_by-cons (λ (stake : Stake). right_count rank stake.rights) (stake_of (first_view {N = N} shape)) []);
-      are_ranks = λ id stake there. subst (λ (s : Stake). AreRanks shape.ranks s.rights) (first_of_one (stake_of (first_view {N = N} shape)) stake id there) (are_ranks shape.ranks 0 shape.ranks (omega arith));
+      each_once = λ rank below. omega (
+        arith,
+        counts_one 0 shape.ranks rank (omega arith) (omega arith),
+        sum_by-cons (λ (stake : Stake). right_count rank stake.rights)
+            (stake_of (first_view {N = N} shape)) [],
+      );
+      are_ranks = λ id stake there. subst (λ (s : Stake). AreRanks shape.ranks s.rights)
+          (first_of_one (stake_of (first_view {N = N} shape)) stake id there)
+          (are_ranks shape.ranks 0 shape.ranks (omega arith));
       few_commits = omega (arith, is Commit tt);
     };
-    spent = λ id view there none. absurd (some_rank shape.ranks in_range.ranks.0 (ap (λ (v : View N). v.rights) (first_of_one (first_view {N = N} shape) view id there) ∙ none));
+    spent = λ id view there none. absurd
+        (some_rank shape.ranks in_range.ranks.0
+        (ap (λ (v : View N). v.rights) (first_of_one (first_view {N = N} shape) view id there)
+        ∙ none));
     locks = record {
-      counted = λ object block. record { word_is = is (Lock object) block; one_mark = omega arith; apart = λ one. omega arith };
-      of_blocks = λ id locks object hold there is_hold. absurd (let none : None ≡ Some hold = ap (λ l. hold_of l object) (first_of_one [] locks id there) ∙ is_hold in cc none);
+      counted = λ object block.
+          record {
+            word_is = is (Lock object) block;
+            one_mark = omega arith;
+            apart = λ one. omega arith;
+          };
+      of_blocks = λ id locks object hold there is_hold. absurd
+          (let none : None ≡ Some hold = ap (λ l. hold_of l object) (first_of_one [] locks id there)
+          ∙ is_hold in cc none);
     };
     gate = record { word_is = is Gate tt; apart = λ some. absurd (omega arith) };
     history = record {
       counted = is Commit tt;
       held = (0, first_view shape, refl, refl);
-      each = first_only {N = N} shape (chronicle_of {N = N}) (λ _. IsChronicle []) (record { begins = ([], refl); own = refl; rest = tt });
+      each = first_only {N = N} shape (chronicle_of {N = N}) (λ _. IsChronicle [])
+          (record { begins = ([], refl); own = refl; rest = tt });
       heard = first_only {N = N} shape (past_of {N = N}) (λ _. AreHeard) tt;
       legal = record { maps = All-nil HasMaps; reads = tt; blocks = λ _. tt };
       fitting = tt;
@@ -467,45 +612,74 @@ module _ {N : Type 0} (fits : Shape → Entry N → Type 0) (shape : Shape) (wor
     };
     objects = objects_stand;
     lie = λ object. lies object (is_reserved shape object.block && is_block shape object);
-    free = record { lists = λ rank. free_list rank (ltb rank shape.ranks) refl; links = λ block. link_below block (is_block shape block) refl };
+    free = record {
+      lists = λ rank. free_list rank (ltb rank shape.ranks) refl;
+      links = λ block. link_below block (is_block shape block) refl;
+    };
     blocks = parted;
     contents = λ object block none. refl;
-    dirt = λ id object. subst (IsDirtOrNone [] (ground.objects object) id) (sym (no_dirt N shape id object)) (λ e. cc e);
-    holdings = first_only {N = N} shape (holdings_of {N = N}) (λ _. AreHeld ground.objects) (record { read = λ object reading e. absurd (cc e); marked = λ object dirt e. absurd (cc e) });
-    own = first_only {N = N} shape (λ (v : View N). v.private) (λ _. AllByRecursion (IsOwnKnown (nexts_in all))) tt;
-    memory = first_only {N = N} shape (memory_of {N = N}) (λ _. Remembers shape) (λ object known e. absurd (cc e));
-    cells = first_only {N = N} shape (stash_of {N = N}) (λ _. AreCells (data_in all)) (λ block i word has e. absurd (cc e));
-    room = first_only {N = N} shape (stock_of {N = N}) (λ _. HasStock shape) (λ rank. omega (arith, sum_below-zero shape.blocks));
-    notes = first_only {N = N} shape (notebook_of {N = N}) (λ _. AreNoted shape (heads_in all) ground.free) (record {
-      notes = each_rank (IsNoted (heads_in all) ground.free) (first_note shape) 0 shape.ranks noted_first;
-      alone = λ alone. record {
-        now = each_rank (λ note. note.head ≡ heads_in all note.rank) (first_note shape) 0 shape.ranks (λ rank low high. sym (is (Head rank) (omega arith)));
-        bounds = each_rank (λ one. tag_of (heads_in all one.0) ≤ one.1) (λ rank. (rank, 0)) 0 shape.ranks (λ rank low high. low_tag rank (omega arith));
-      };
-    });
+    dirt = λ id object. subst (IsDirtOrNone [] (ground.objects object) id)
+        (sym (no_dirt N shape id object)) (λ e. cc e);
+    holdings = first_only {N = N} shape (holdings_of {N = N}) (λ _. AreHeld ground.objects)
+        (record {
+          read = λ object reading e. absurd (cc e);
+          marked = λ object dirt e. absurd (cc e);
+        });
+    own = first_only {N = N} shape (λ (v : View N). v.private)
+        (λ _. AllByRecursion (IsOwnKnown (nexts_in all))) tt;
+    memory = first_only {N = N} shape (memory_of {N = N}) (λ _. Remembers shape)
+        (λ object known e. absurd (cc e));
+    cells = first_only {N = N} shape (stash_of {N = N}) (λ _. AreCells (data_in all))
+        (λ block i word has e. absurd (cc e));
+    room = first_only {N = N} shape (stock_of {N = N}) (λ _. HasStock shape)
+        (λ rank. omega (arith, sum_below-zero shape.blocks));
+    notes = first_only {N = N} shape (notebook_of {N = N})
+        (λ _. AreNoted shape (heads_in all) ground.free) (record {
+          notes = each_rank (IsNoted (heads_in all) ground.free)
+              (first_note shape) 0 shape.ranks noted_first;
+          alone = λ alone. record {
+            now = each_rank (λ note. note.head ≡ heads_in all note.rank)
+                (first_note shape) 0 shape.ranks (λ rank low high. sym (is (Head rank) (omega arith)));
+            bounds = each_rank (λ one. tag_of (heads_in all one.0) ≤ one.1)
+                (λ rank. (rank, 0)) 0 shape.ranks (λ rank low high. low_tag rank (omega arith));
+          };
+        });
     stamps = record {
       bound = λ object block. omega (arith, is (Stamp object) block);
       closed = λ object block none. ap (λ n. n % 2) (is (Stamp object) block);
       odd = λ object id block e. absurd (cc e);
-      opened = λ id object is_b. subst (IsOpened (all Commit) (all (Stamp object)) id None) (sym (none_open N shape id object)) (λ e. cc e);
-      each = first_only {N = N} shape (open_state_of {N = N}) (λ _. IsOpenState) (record { marked = λ object written e. absurd (cc e); dirty = λ object dirt e. absurd (cc e) });
+      opened = λ id object is_b. subst (IsOpened (all Commit) (all (Stamp object)) id None)
+          (sym (none_open N shape id object)) (λ e. cc e);
+      each = first_only {N = N} shape (open_state_of {N = N}) (λ _. IsOpenState)
+          (record {
+            marked = λ object written e. absurd (cc e);
+            dirty = λ object dirt e. absurd (cc e);
+          });
     };
   }
 
-pub opening_is_lawful : {S N : Type 0} (fits : Shape → Entry N → Type 0) (shape : Shape) (words : List ℕ) → IsInRange shape
-    → AreWords shape words (first_word_of shape) → IsRuled fits shape (opening {S = S} words [] (first_view {N = N} shape))
+pub opening_is_lawful : {S N : Type 0} (fits : Shape → Entry N → Type 0) (shape : Shape)
+    (words : List ℕ) → IsInRange shape
+    → AreWords shape words (first_word_of shape)
+    → IsRuled fits shape (opening {S = S} words [] (first_view {N = N} shape))
 opening_is_lawful {S} {N} fits shape words in_range h = record {
   sized = h.all;
-  lawful = record { ground = first_ground {N = N} shape; holds = opening_holds {N = N} fits shape words in_range h };
+  lawful = record {
+    ground = first_ground {N = N} shape;
+    holds = opening_holds {N = N} fits shape words in_range h;
+  };
 }
 
 -- the view that a window begins with is live
-pub first_is_live : {N : Type 0} (shape : Shape) (view : View N) → IsInRange shape → view ≡ first_view {N = N} shape → view.rights ≢ []
+pub first_is_live : {N : Type 0} (shape : Shape) (view : View N) → IsInRange shape
+    → view ≡ first_view {N = N} shape → view.rights ≢ []
 first_is_live {N} shape view in_range first none =
     some_rank shape.ranks in_range.ranks.0 (sym (ap (λ (v : View N). v.rights) first) ∙ none)
 
 -- and alone
-pub first_is_alone : {N : Type 0} (shape : Shape) (view : View N) → view ≡ first_view {N = N} shape → IsAlone shape view
+pub first_is_alone : {N : Type 0} (shape : Shape) (view : View N) → view ≡ first_view {N = N} shape
+    → IsAlone shape view
 first_is_alone {N} shape view first rank below =
-    let same : right_count rank view.rights ≡ right_count rank (range_with_len 0 shape.ranks) = ap (λ (v : View N). right_count rank v.rights) first in
+    let same : right_count rank view.rights ≡ right_count rank (range_with_len 0 shape.ranks) = ap
+    (λ (v : View N). right_count rank v.rights) first in
     omega (arith, counts_one 0 shape.ranks rank (omega arith) (omega arith))

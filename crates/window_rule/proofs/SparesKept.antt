@@ -15,84 +15,130 @@ use Rattle.window_rule.proofs.WordFunctions.{same_place-tells}
 use Rattle.window_rule.proofs.JoinSteps.{All-append}
 
 -- the function gives the list
-pub chain_is : (n : ℕ) (own : List OwnBlock) (rank first last : ℕ) (list : List Place) → AreSpares own rank first last list → length list ≤ n → chain_from n own rank first ≡ list
+pub chain_is : (n : ℕ) (own : List OwnBlock) (rank first last : ℕ) (list : List Place)
+    → AreSpares own rank first last list → length list ≤ n → chain_from n own rank first ≡ list
 chain_is zero own rank first last [] h few = refl
 chain_is zero own rank first last (block ∷ more) h few = absurd (omega arith)
-chain_is (suc n) own rank first last [] h few = ap (λ b. cond b [] (on_rank rank first ∷ chain_from n own rank (unwrap_or (own_next_of own (on_rank rank first)) 0))) (eq-eqb first 0 h.first_is)
+chain_is (suc n) own rank first last [] h few = ap
+    (λ b. cond b [] (on_rank rank first ∷ chain_from n own rank
+    (unwrap_or (own_next_of own (on_rank rank first)) 0))) (eq-eqb first 0 h.first_is)
 chain_is (suc n) own rank first last (block ∷ more) h few =
-    let is : on_rank rank first ≡ block = place_by_parts (on_rank rank first) block (sym h.places.0.0) h.first_is in
+    let is : on_rank rank first ≡ block = place_by_parts (on_rank rank first) block
+    (sym h.places.0.0) h.first_is in
     let not_nil : first ≢ 0 = λ none. h.places.0.1 (sym h.first_is ∙ none) in
-    let link : own_next_of own (on_rank rank first) ≡ Some (number_to more) = ap (own_next_of own) is ∙ h.chained.0 in
-    let rest = chain_is n own rank (number_to more) (last_number more) more (record { chained = h.chained.1; first_is = refl; last_is = refl; places = h.places.1 }) (omega arith) in
-    ap (λ b. cond b [] (on_rank rank first ∷ chain_from n own rank (unwrap_or (own_next_of own (on_rank rank first)) 0))) (ne_eqb first 0 not_nil)
-    ∙ (ap (λ l. on_rank rank first ∷ chain_from n own rank (unwrap_or l 0)) link ∙ (λ k. is k ∷ rest k))
+    let link : own_next_of own (on_rank rank first) ≡ Some (number_to more) = ap
+    (own_next_of own) is ∙ h.chained.0 in
+    let rest = chain_is n own rank (number_to more) (last_number more) more
+    (record { chained = h.chained.1; first_is = refl; last_is = refl; places = h.places.1 })
+    (omega arith) in
+    ap (λ b. cond b []
+    (on_rank rank first ∷ chain_from n own rank
+    (unwrap_or (own_next_of own (on_rank rank first)) 0))) (ne_eqb first 0 not_nil)
+    ∙ (ap (λ l. on_rank rank first ∷ chain_from n own rank (unwrap_or l 0)) link
+    ∙ (λ k. is k ∷ rest k))
 
 -- what a spare leads to is known as before
-pub chained_same : (own after : List OwnBlock) (list : List Place) → ((block : Place) → 0 < times block list → own_next_of after block ≡ own_next_of own block) → AreChained own list → AreChained after list
+pub chained_same : (own after : List OwnBlock) (list : List Place)
+    → ((block : Place) → 0 < times block list → own_next_of after block ≡ own_next_of own block)
+    → AreChained own list → AreChained after list
 chained_same own after [] same h = tt
 chained_same own after (block ∷ more) same h = (
-  same block (let here : one_if (same_place block block) ≡ 1 = ap one_if (same_place-refl block) in omega arith) ∙ h.0,
+  same block (let here : one_if (same_place block block) ≡ 1 = ap one_if (same_place-refl block) in
+      omega arith) ∙ h.0,
   chained_same own after more (λ b there. same b (omega arith)) h.1,
 )
 
-pub AreSpares-same : (own after : List OwnBlock) (rank first last : ℕ) (list : List Place) → ((block : Place) → 0 < times block list → own_next_of after block ≡ own_next_of own block)
+pub AreSpares-same : (own after : List OwnBlock) (rank first last : ℕ) (list : List Place)
+    → ((block : Place) → 0 < times block list → own_next_of after block ≡ own_next_of own block)
     → AreSpares own rank first last list → AreSpares after rank first last list
-AreSpares-same own after rank first last list same h = record { chained = chained_same own after list same h.chained; first_is = h.first_is; last_is = h.last_is; places = h.places }
+AreSpares-same own after rank first last list same h =
+    record {
+      chained = chained_same own after list same h.chained;
+      first_is = h.first_is;
+      last_is = h.last_is;
+      places = h.places;
+    }
 
 -- a block that is popped, linked or pushed is no spare
-pub link-popped : (one : OwnBlock) (own : List OwnBlock) (block : Place) → block ≢ one.block → own_next_of (one ∷ own) block ≡ own_next_of own block
-link-popped one own block ne = ap (λ b. next_in (cond b (Some one) (own_of own block))) (same_place-false one.block block (λ e. ne (sym e)))
+pub link-popped : (one : OwnBlock) (own : List OwnBlock) (block : Place) → block ≢ one.block
+    → own_next_of (one ∷ own) block ≡ own_next_of own block
+link-popped one own block ne = ap (λ b. next_in (cond b (Some one) (own_of own block)))
+    (same_place-false one.block block (λ e. ne (sym e)))
 
-pub link-linked : (linked : Place) (next : ℕ) (own : List OwnBlock) (block : Place) → block ≢ linked → own_next_of (with_link linked next own) block ≡ own_next_of own block
+pub link-linked : (linked : Place) (next : ℕ) (own : List OwnBlock) (block : Place) → block ≢ linked
+    → own_next_of (with_link linked next own) block ≡ own_next_of own block
 link-linked linked next [] block ne = refl
 link-linked linked next (one ∷ more) block ne =
     elim (cases_Bool (same_place one.block linked)) [
       | inl same ↦
           let is : one.block ≡ linked = same_place-tells one.block linked same in
-          let other : same_place one.block block ≡ false = same_place-false one.block block (λ e. ne (sym e ∙ is)) in
-          ap (λ b. own_next_of (cond b (record one { next = Some next }) one ∷ with_link linked next more) block) same
-          ∙ (ap (λ b. next_in (cond b (Some (record one { next = Some next })) (own_of (with_link linked next more) block))) other
-          ∙ (link-linked linked next more block ne ∙ sym (ap (λ b. next_in (cond b (Some one) (own_of more block))) other)))
+          let other : same_place one.block block ≡ false = same_place-false one.block block
+          (λ e. ne (sym e ∙ is)) in
+          ap (λ b. own_next_of
+          (cond b (record one { next = Some next }) one ∷ with_link linked next more)
+          block) same
+          ∙ (ap (λ b. next_in
+          (cond b (Some (record one { next = Some next }))
+          (own_of (with_link linked next more) block))) other
+          ∙ (link-linked linked next more block ne
+          ∙ sym (ap (λ b. next_in (cond b (Some one) (own_of more block))) other)))
       | inr differ ↦
-          ap (λ b. own_next_of (cond b (record one { next = Some next }) one ∷ with_link linked next more) block) differ
-          ∙ (elim (same_place one.block block) as (λ b. next_in (cond b (Some one) (own_of (with_link linked next more) block)) ≡ next_in (cond b (Some one) (own_of more block))) [
+          ap (λ b. own_next_of
+          (cond b (record one { next = Some next }) one ∷ with_link linked next more)
+          block) differ
+          ∙ (elim (same_place one.block block) as
+          (λ b. next_in (cond b (Some one) (own_of (with_link linked next more) block))
+          ≡ next_in (cond b (Some one) (own_of more block))) [
             | true ↦ refl
             | false ↦ link-linked linked next more block ne
           ])
     ]
 
-pub link-here : (block : Place) (next : ℕ) (own : List OwnBlock) → 0 < times block (places_of own) → own_next_of (with_link block next own) block ≡ Some next
+pub link-here : (block : Place) (next : ℕ) (own : List OwnBlock) → 0 < times block (places_of own)
+    → own_next_of (with_link block next own) block ≡ Some next
 link-here block next [] there = absurd (omega arith)
 link-here block next (one ∷ more) there =
     elim (cases_Bool (same_place one.block block)) [
       | inl same ↦
-          ap (λ b. own_next_of (cond b (record one { next = Some next }) one ∷ with_link block next more) block) same
-          ∙ ap (λ b. next_in (cond b (Some (record one { next = Some next })) (own_of (with_link block next more) block))) same
+          ap (λ b. own_next_of
+          (cond b (record one { next = Some next }) one ∷ with_link block next more) block) same
+          ∙ ap (λ b. next_in
+          (cond b (Some (record one { next = Some next }))
+          (own_of (with_link block next more) block))) same
       | inr differ ↦
           let none : one_if (same_place one.block block) ≡ 0 = ap one_if differ in
-          ap (λ b. own_next_of (cond b (record one { next = Some next }) one ∷ with_link block next more) block) differ
-          ∙ (ap (λ b. next_in (cond b (Some one) (own_of (with_link block next more) block))) differ ∙ link-here block next more (omega arith))
+          ap (λ b. own_next_of
+          (cond b (record one { next = Some next }) one ∷ with_link block next more)
+          block) differ
+          ∙ (ap (λ b. next_in (cond b (Some one) (own_of (with_link block next more) block))) differ
+          ∙ link-here block next more (omega arith))
     ]
 
-pub link-pushed : (gone : Place) (own : List OwnBlock) (block : Place) → block ≢ gone → own_next_of (without_own own gone) block ≡ own_next_of own block
+pub link-pushed : (gone : Place) (own : List OwnBlock) (block : Place) → block ≢ gone
+    → own_next_of (without_own own gone) block ≡ own_next_of own block
 link-pushed gone [] block ne = refl
 link-pushed gone (one ∷ more) block ne =
     elim (cases_Bool (same_place one.block gone)) [
       | inl same ↦
           let is : one.block ≡ gone = same_place-tells one.block gone same in
           ap (λ b. own_next_of (cond b more (one ∷ without_own more gone)) block) same
-          ∙ sym (ap (λ b. next_in (cond b (Some one) (own_of more block))) (same_place-false one.block block (λ e. ne (sym e ∙ is))))
+          ∙ sym (ap (λ b. next_in (cond b (Some one) (own_of more block)))
+          (same_place-false one.block block (λ e. ne (sym e ∙ is))))
       | inr differ ↦
           ap (λ b. own_next_of (cond b more (one ∷ without_own more gone)) block) differ
-          ∙ (elim (same_place one.block block) as (λ b. next_in (cond b (Some one) (own_of (without_own more gone) block)) ≡ next_in (cond b (Some one) (own_of more block))) [
+          ∙ (elim (same_place one.block block) as
+          (λ b. next_in (cond b (Some one) (own_of (without_own more gone) block)) ≡ next_in
+          (cond b (Some one) (own_of more block))) [
             | true ↦ refl
             | false ↦ link-pushed gone more block ne
           ])
     ]
 
 -- a block that leads to the first becomes the first
-pub spare_kept : (own : List OwnBlock) (rank first last : ℕ) (list : List Place) (block : Place) → block.rank ≡ rank → block.block ≢ 0 → own_next_of own block ≡ Some first
-    → AreSpares own rank first last list → AreSpares own rank block.block (last_number (block ∷ list)) (block ∷ list)
+pub spare_kept : (own : List OwnBlock) (rank first last : ℕ) (list : List Place) (block : Place)
+    → block.rank ≡ rank → block.block ≢ 0 → own_next_of own block ≡ Some first
+    → AreSpares own rank first last list
+    → AreSpares own rank block.block (last_number (block ∷ list)) (block ∷ list)
 spare_kept own rank first last list block on not_nil link h = record {
   chained = (link ∙ ap Some h.first_is, h.chained);
   first_is = refl;
@@ -101,7 +147,8 @@ spare_kept own rank first last list block on not_nil link h = record {
 }
 
 -- and the first is no spare any more
-pub spare_used : (own : List OwnBlock) (rank first last next : ℕ) (block : Place) (more : List Place) → own_next_of own block ≡ Some next
+pub spare_used : (own : List OwnBlock) (rank first last next : ℕ) (block : Place)
+    (more : List Place) → own_next_of own block ≡ Some next
     → AreSpares own rank first last (block ∷ more) → AreSpares own rank next (last_number more) more
 spare_used own rank first last next block more link h = record {
   chained = h.chained.1;
@@ -110,49 +157,68 @@ spare_used own rank first last next block more link h = record {
   places = h.places.1;
 }
 
-pub link-left : (mine theirs : List OwnBlock) (block : Place) (n : ℕ) → own_next_of mine block ≡ Some n → own_next_of (mine ++ theirs) block ≡ Some n
+pub link-left : (mine theirs : List OwnBlock) (block : Place) (n : ℕ)
+    → own_next_of mine block ≡ Some n → own_next_of (mine ++ theirs) block ≡ Some n
 link-left [] theirs block n e = absurd (cc e)
 link-left (one ∷ more) theirs block n e =
     elim (cases_Bool (same_place one.block block)) [
-      | inl same ↦ ap (λ b. next_in (cond b (Some one) (own_of (more ++ theirs) block))) same ∙ (sym (ap (λ b. next_in (cond b (Some one) (own_of more block))) same) ∙ e)
+      | inl same ↦ ap (λ b. next_in (cond b (Some one) (own_of (more ++ theirs) block))) same
+          ∙ (sym (ap (λ b. next_in (cond b (Some one) (own_of more block))) same) ∙ e)
       | inr differ ↦
           ap (λ b. next_in (cond b (Some one) (own_of (more ++ theirs) block))) differ
-          ∙ link-left more theirs block n (sym (ap (λ b. next_in (cond b (Some one) (own_of more block))) differ) ∙ e)
+          ∙ link-left more theirs block n
+          (sym (ap (λ b. next_in (cond b (Some one) (own_of more block))) differ) ∙ e)
     ]
 
-pub link-right : (mine theirs : List OwnBlock) (block : Place) → times block (places_of mine) ≡ 0 → own_next_of (mine ++ theirs) block ≡ own_next_of theirs block
+pub link-right : (mine theirs : List OwnBlock) (block : Place) → times block (places_of mine) ≡ 0
+    → own_next_of (mine ++ theirs) block ≡ own_next_of theirs block
 link-right [] theirs block none = refl
 link-right (one ∷ more) theirs block none =
     elim (cases_Bool (same_place one.block block)) [
-      | inl same ↦ let here : one_if (same_place one.block block) ≡ 1 = ap one_if same in absurd (omega arith)
-      | inr differ ↦ ap (λ b. next_in (cond b (Some one) (own_of (more ++ theirs) block))) differ ∙ link-right more theirs block (omega arith)
+      | inl same ↦ let here : one_if (same_place one.block block) ≡ 1 = ap one_if same in absurd
+          (omega arith)
+      | inr differ ↦ ap (λ b. next_in (cond b (Some one) (own_of (more ++ theirs) block))) differ
+          ∙ link-right more theirs block (omega arith)
     ]
 
 -- all but the last of a chain is as it was, and the last leads to the other chain
 abbrev pub AreChainedTo : List OwnBlock → ℕ → List Place → Type 0
 AreChainedTo own to [] = Unit {0}
 AreChainedTo own to (block ∷ []) = own_next_of own block ≡ Some to
-AreChainedTo own to (block ∷ (next ∷ more)) = (own_next_of own block ≡ Some next.block) × AreChainedTo own to (next ∷ more)
+AreChainedTo own to (block ∷ (next ∷ more)) = (own_next_of own block ≡ Some next.block)
+    × AreChainedTo own to (next ∷ more)
 
-chains_join : (mine theirs : List OwnBlock) (block : Place) (xs ys : List Place) → AreChainedTo mine (number_to ys) (block ∷ xs) → AreChained (mine ++ theirs) ys → AreChained (mine ++ theirs) ((block ∷ xs) ++ ys)
+chains_join : (mine theirs : List OwnBlock) (block : Place) (xs ys : List Place)
+    → AreChainedTo mine (number_to ys) (block ∷ xs) → AreChained (mine ++ theirs) ys
+    → AreChained (mine ++ theirs) ((block ∷ xs) ++ ys)
 chains_join mine theirs block [] ys h k = (link-left mine theirs block (number_to ys) h, k)
-chains_join mine theirs block (next ∷ more) ys h k = (link-left mine theirs block next.block h.0, chains_join mine theirs next more ys h.1 k)
+chains_join mine theirs block (next ∷ more) ys h k =
+    (link-left mine theirs block next.block h.0, chains_join mine theirs next more ys h.1 k)
 
-last_of_both : (block other : Place) (xs ys : List Place) → last_number ((block ∷ xs) ++ other ∷ ys) ≡ last_number (other ∷ ys)
+last_of_both : (block other : Place) (xs ys : List Place)
+    → last_number ((block ∷ xs) ++ other ∷ ys) ≡ last_number (other ∷ ys)
 last_of_both block other [] ys = refl
 last_of_both block other (next ∷ more) ys = last_of_both next other more ys
 
--- two chains of one home rank are one once the last block of the one leads to the first of the other
-pub spares_joined : (mine theirs : List OwnBlock) (rank first last other_first other_last : ℕ) (block other : Place) (xs ys : List Place)
-    → AreChainedTo mine (number_to (other ∷ ys)) (block ∷ xs) → first ≡ block.block → AllByRecursion (λ (b : Place). (b.rank ≡ rank) × (b.block ≢ 0)) (block ∷ xs)
-    → AreSpares theirs rank other_first other_last (other ∷ ys) → ((b : Place) → 0 < times b (other ∷ ys) → times b (places_of mine) ≡ 0)
+-- two chains of one home rank are one once the last block of the one leads to the first of the
+-- other
+pub spares_joined : (mine theirs : List OwnBlock) (rank first last other_first other_last : ℕ)
+    (block other : Place) (xs ys : List Place)
+    → AreChainedTo mine (number_to (other ∷ ys)) (block ∷ xs) → first ≡ block.block
+    → AllByRecursion (λ (b : Place). (b.rank ≡ rank) × (b.block ≢ 0)) (block ∷ xs)
+    → AreSpares theirs rank other_first other_last (other ∷ ys)
+    → ((b : Place) → 0 < times b (other ∷ ys) → times b (places_of mine) ≡ 0)
     → AreSpares (mine ++ theirs) rank first other_last ((block ∷ xs) ++ other ∷ ys)
-spares_joined mine theirs rank first last other_first other_last block other xs ys to first_is places h apart = record {
-  chained = chains_join mine theirs block xs (other ∷ ys) to (chained_same theirs (mine ++ theirs) (other ∷ ys) (λ b there. link-right mine theirs b (apart b there)) h.chained);
-  first_is = first_is;
-  last_is = h.last_is ∙ sym (last_of_both block other xs ys);
-  places = All-append (λ (b : Place). (b.rank ≡ rank) × (b.block ≢ 0)) (block ∷ xs) (other ∷ ys) places h.places;
-}
+spares_joined mine theirs rank first last other_first other_last block other xs ys to first_is
+    places h apart = record {
+      chained = chains_join mine theirs block xs (other ∷ ys) to
+          (chained_same theirs (mine ++ theirs) (other ∷ ys)
+          (λ b there. link-right mine theirs b (apart b there)) h.chained);
+      first_is = first_is;
+      last_is = h.last_is ∙ sym (last_of_both block other xs ys);
+      places = All-append (λ (b : Place). (b.rank ≡ rank) × (b.block ≢ 0)) (block ∷ xs)
+          (other ∷ ys) places h.places;
+    }
 
 -- the last block of a chain
 abbrev pub last_of : Place → List Place → Place
@@ -160,16 +226,21 @@ last_of block [] = block
 last_of block (next ∷ more) = last_of next more
 
 pub last_in : (block : Place) (xs : List Place) → 0 < times (last_of block xs) (block ∷ xs)
-last_in block [] = let here : one_if (same_place block block) ≡ 1 = ap one_if (same_place-refl block) in omega arith
+last_in block [] = let here : one_if (same_place block block) ≡ 1 = ap one_if
+    (same_place-refl block) in omega arith
 last_in block (next ∷ more) = omega (arith, last_in next more)
 
 -- the step that links it makes such a chain of it, if no block stands twice
-pub last_linked : (own : List OwnBlock) (to : ℕ) (block : Place) (xs : List Place) → 0 < times (last_of block xs) (places_of own) → ((b : Place) → times b (block ∷ xs) ≤ 1)
-    → AreChained own (block ∷ xs) → AreChainedTo (with_link (last_of block xs) to own) to (block ∷ xs)
+pub last_linked : (own : List OwnBlock) (to : ℕ) (block : Place) (xs : List Place)
+    → 0 < times (last_of block xs) (places_of own) → ((b : Place) → times b (block ∷ xs) ≤ 1)
+    → AreChained own (block ∷ xs)
+    → AreChainedTo (with_link (last_of block xs) to own) to (block ∷ xs)
 last_linked own to block [] there once h = link-here block to own there
 last_linked own to block (next ∷ more) there once h = (
   link-linked (last_of next more) to own block (λ same.
-      let here : one_if (same_place block (last_of next more)) ≡ 1 = ap (λ p. one_if (same_place p (last_of next more))) same ∙ ap one_if (same_place-refl (last_of next more)) in
+      let here : one_if (same_place block (last_of next more)) ≡ 1 = ap
+      (λ p. one_if (same_place p (last_of next more))) same
+      ∙ ap one_if (same_place-refl (last_of next more)) in
       omega (arith, once (last_of next more), last_in next more)) ∙ h.0,
   last_linked own to next more there (λ b. omega (arith, once b)) h.1,
 )

@@ -1,4 +1,5 @@
--- The part of the invariant on contents: what views have read and detached, and what the history has.
+-- The part of the invariant on contents: what views have read and detached, and what the history
+-- has.
 use Rattle.std.specs.Prelude.{◌≡◌, ◌≢◌, ℕ, ◌<◌, ◌⊎◌, List, [], map, get_or, Option, Some, None}
 use Rattle.std.specs.List.{AllByRecursion}
 use mathlib.Core.List.{IsPrefix}
@@ -18,14 +19,17 @@ abbrev pub AreKnown : (Place → ℕ → ℕ) → Place → KnownWords → Type 
 AreKnown cells block known = AllByRecursion (λ (one : ℕ × ℕ). cells block one.0 ≡ one.1) known
 
 abbrev pub BlocksAreKnown : (Place → ℕ → ℕ) → List (Place × KnownWords) → Type 0
-BlocksAreKnown cells blocks = AllByRecursion (λ (one : Place × KnownWords). AreKnown cells one.0 one.1) blocks
+BlocksAreKnown cells blocks = AllByRecursion
+    (λ (one : Place × KnownWords). AreKnown cells one.0 one.1) blocks
 
 abbrev pub blocks_in : List (Place × KnownWords) → List Place
 blocks_in blocks = map (λ (one : Place × KnownWords). one.0) blocks
 
--- An object that no view has detached has the content that the history gives it. It reads no word and no view but the history.
+-- An object that no view has detached has the content that the history gives it. It reads no word
+-- and no view but the history.
 abbrev pub ContentsAgree : Shape → Contents → Objects → Type 0
-ContentsAgree shape store objects = (object : Place) → IsBlock shape object → (objects object).writer ≡ None → (objects object).content ≡ Some (content_of store object)
+ContentsAgree shape store objects = (object : Place) → IsBlock shape object
+    → (objects object).writer ≡ None → (objects object).content ≡ Some (content_of store object)
 
 -- what a view has of an object that it has detached
 pub record IsDirt (stored : List ℕ) (standing : Standing) (id : ℕ) (dirt : Dirt) : Type 0 where
@@ -38,12 +42,16 @@ abbrev pub IsDirtOrNone : List ℕ → Standing → ℕ → Option Dirt → Type
 IsDirtOrNone stored standing id None = standing.writer ≢ Some id
 IsDirtOrNone stored standing id (Some dirt) = IsDirt stored standing id dirt
 
--- An object has the writer that has dirt of it, whatever the number. It reads no word, and the dirt of each view.
+-- An object has the writer that has dirt of it, whatever the number. It reads no word, and the dirt
+-- of each view.
 abbrev pub DirtHolds : Contents → Objects → List (List Dirt) → Type 0
-DirtHolds store objects dirts = (id : ℕ) (object : Place) → IsDirtOrNone (content_of store object) (objects object) id (dirt_of (get_or dirts id []) object)
+DirtHolds store objects dirts = (id : ℕ) (object : Place)
+    → IsDirtOrNone (content_of store object) (objects object) id
+    (dirt_of (get_or dirts id []) object)
 
 -- what was read of an object word by word is so
-pub record IsRead (sizes : Place → ℕ) (cells : Place → ℕ → ℕ) (object : Place) (chain : List Place) (reading : Reading) : Type 0 where
+pub record IsRead (sizes : Place → ℕ) (cells : Place → ℕ → ℕ) (object : Place) (chain : List Place)
+    (reading : Reading) : Type 0 where
   pub size : (n : ℕ) → reading.size ≡ Some n → sizes object ≡ n
   pub blocks : IsPrefix (blocks_in reading.blocks) chain
   pub known : BlocksAreKnown cells reading.blocks
@@ -68,13 +76,18 @@ pub record Holdings : Type 0 where
   pub gate : GatePlace
 
 abbrev pub holdings_of : {N : Type 0} → View N → Holdings
-holdings_of view = record { locks = view.locks; known = view.known; dirty = view.dirty; gate = view.gate }
+holdings_of view =
+    record { locks = view.locks; known = view.known; dirty = view.dirty; gate = view.gate }
 
--- one view's holdings. What it knows is of an object that it has locked and not detached, or it is whole in the gate
+-- one view's holdings. What it knows is of an object that it has locked and not detached, or it is
+-- whole in the gate
 pub record AreHeld (objects : Objects) (one : Holdings) : Type 0 where
   pub read : (object : Place) (known : Known) → known_of one.known object ≡ Some known
-      → IsKnown (objects object).chain (objects object).content known × (dirt_of one.dirty object ≡ None) × (Lasts (hold_of one.locks object) ⊎ (one.gate ≡ AsWhole))
-  pub marked : (object : Place) (dirt : Dirt) → dirt_of one.dirty object ≡ Some dirt → (hold_of one.locks object ≡ Some Marked) × (one.gate ≡ AsWriter)
+      → IsKnown (objects object).chain (objects object).content known
+      × (dirt_of one.dirty object ≡ None)
+      × (Lasts (hold_of one.locks object) ⊎ (one.gate ≡ AsWhole))
+  pub marked : (object : Place) (dirt : Dirt) → dirt_of one.dirty object ≡ Some dirt
+      → (hold_of one.locks object ≡ Some Marked) × (one.gate ≡ AsWriter)
 
 -- It reads no word, and the locks, what is known, the dirt and the gate place of each view.
 abbrev pub HoldingsHold : {N : Type 0} → Objects → List (View N) → Type 0
@@ -86,7 +99,8 @@ IsOwnKnown nexts own = (next : ℕ) → own.next ≡ Some next → nexts own.blo
 
 -- It reads the free-list words, and the blocks of each view's own.
 abbrev pub OwnBlocksHold : {N : Type 0} → (Place → ℕ) → List (View N) → Type 0
-OwnBlocksHold {N} nexts views = EachView (λ (v : View N). v.private) (λ _. AllByRecursion (IsOwnKnown nexts)) views
+OwnBlocksHold {N} nexts views = EachView (λ (v : View N). v.private)
+    (λ _. AllByRecursion (IsOwnKnown nexts)) views
 
 -- what the part on cells reads of a view
 pub record Stash : Type 0 where
@@ -99,11 +113,14 @@ stash_of view = record { private = view.private; dirty = view.dirty; cells = vie
 
 -- the block is of the view's own, or of an object that it has detached
 abbrev pub HasBlock : Stash → Place → Type 0
-HasBlock stash block = (0 < times block (places_of stash.private)) ⊎ ((object : Place) × (dirt : Dirt) × (dirt_of stash.dirty object ≡ Some dirt) × (0 < times block dirt.blocks))
+HasBlock stash block = (0 < times block (places_of stash.private))
+    ⊎ ((object : Place) × (dirt : Dirt) × (dirt_of stash.dirty object ≡ Some dirt)
+    × (0 < times block dirt.blocks))
 
 -- what the view knows of the words of its blocks is so
 abbrev pub AreCells : (Place → ℕ → ℕ) → Stash → Type 0
-AreCells cells stash = (block : Place) (i word : ℕ) → HasBlock stash block → cell_of stash.cells block i ≡ Some word → cells block i ≡ word
+AreCells cells stash = (block : Place) (i word : ℕ) → HasBlock stash block
+    → cell_of stash.cells block i ≡ Some word → cells block i ≡ word
 
 -- It reads the cells words, and the blocks and the cells of each view.
 abbrev pub CellsHold : {N : Type 0} → (Place → ℕ → ℕ) → List (View N) → Type 0

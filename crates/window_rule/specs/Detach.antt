@@ -14,17 +14,24 @@ use Rattle.window_rule.specs.StampsHold.{opened_of}
 -- so many words of a block, as they are, are what is known of it
 abbrev pub row : (Place → ℕ → ℕ) → Place → ℕ → List Cell → List Cell
 row words block zero rest = rest
-row words block (suc n) rest = record { block = block; index = n; word = words block n } ∷ row words block n rest
+row words block (suc n) rest =
+    record { block = block; index = n; word = words block n } ∷ row words block n rest
 
 abbrev pub rows : (Place → ℕ → ℕ) → ℕ → List Place → List Cell → List Cell
 rows words n [] rest = rest
 rows words n (block ∷ more) rest = row words block n (without_cells (rows words n more rest) block)
 
 abbrev pub dirt_on : Place → Known → Dirt
-dirt_on object known = record { object = object; kept = known.content; blocks = known.chain; attached = None }
+dirt_on object known =
+    record { object = object; kept = known.content; blocks = known.chain; attached = None }
 
 abbrev pub detached : {N : Type 0} → Place → Known → List Cell → View N → View N
-detached object known cells view = record view { dirty = dirt_on object known ∷ view.dirty; known = without_known view.known object; cells = cells }
+detached object known cells view =
+    record view {
+      dirty = dirt_on object known ∷ view.dirty;
+      known = without_known view.known object;
+      cells = cells;
+    }
 
 pub record MayDetach {N : Type 0} (view : View N) (object : Place) : Type 0 where
   pub marked : hold_of view.locks object ≡ Some Marked
@@ -32,8 +39,10 @@ pub record MayDetach {N : Type 0} (view : View N) (object : Place) : Type 0 wher
   pub writer : view.gate ≡ AsWriter
   pub opened : opened_of view.stamps.opened object ≢ None
 
--- the object's blocks are with the view, which knows all their words. What it knew of the object was so
-pub record Detaches {N : Type 0} (shape : Shape) (object : Place) (before after : View N) : Type 0 where
+-- the object's blocks are with the view, which knows all their words. What it knew of the object
+-- was so
+pub record Detaches {N : Type 0} (shape : Shape) (object : Place)
+    (before after : View N) : Type 0 where
   pub known : Known
   pub cells : List Cell
   pub view : after ≡ detached object known cells before
@@ -43,4 +52,5 @@ pub record Detaches {N : Type 0} (shape : Shape) (object : Place) (before after 
   pub lies : LiesAt object known.chain
   pub spelled : IsSpelled shape cells known.chain known.content
   pub apart : (block : Place) → times block known.chain + times block (places_of before.private) ≤ 1
-  pub others : (block : Place) (i : ℕ) → times block known.chain ≡ 0 → cell_of cells block i ≡ cell_of before.cells block i
+  pub others : (block : Place) (i : ℕ) → times block known.chain ≡ 0
+      → cell_of cells block i ≡ cell_of before.cells block i

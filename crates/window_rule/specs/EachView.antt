@@ -5,4 +5,5 @@ use lib.ListN.{get_elem?}
 
 -- of what a part reads of it, and of its number
 abbrev pub EachView : {V A : Type 0} → (V → A) → (ℕ → A → Type 0) → List V → Type 0
-EachView {V} part Holds views = (id : ℕ) (view : V) → get_elem? views id ≡ some view → Holds id (part view)
+EachView {V} part Holds views = (id : ℕ) (view : V) → get_elem? views id ≡ some view
+    → Holds id (part view)

@@ -17,25 +17,29 @@ is_lasting (Some Returning) = false
 -- what is known of objects that are locked so that it lasts
 abbrev pub under_locks : Locks → List (Place × Known) → List (Place × Known)
 under_locks locks [] = []
-under_locks locks (one ∷ more) = if is_lasting (hold_of locks one.0) then one ∷ under_locks locks more else under_locks locks more
+under_locks locks (one ∷ more) = if is_lasting
+    (hold_of locks one.0) then one ∷ under_locks locks more else under_locks locks more
 
 module _ {N : Type 0} where
   -- the view has this place in the gate
   abbrev pub entered : GatePlace → View N → View N
   entered place view = record view { gate = place }
 
-  -- the view has no place in the gate, and forgets what it has read of objects that it has not locked
+  -- the view has no place in the gate, and forgets what it has read of objects that it has not
+  -- locked
   abbrev pub outside : View N → View N
   outside view = record view { gate = Outside; known = under_locks view.locks view.known }
 
 module _ {N : Type 0} (shape : Shape) (before : View N) (found : ℕ) (after : View N) where
   -- a writer's place is added. Where it is refused the word still counts it
   abbrev pub EntersAsWriter : Type 0
-  EntersAsWriter = Tries shape Writer before found after (entered AsWriter before) (refused OfGate Writer found (entered WriterReturning before))
+  EntersAsWriter = Tries shape Writer before found after (entered AsWriter before)
+      (refused OfGate Writer found (entered WriterReturning before))
 
   -- a whole place is added. Where it is refused the word still counts it
   abbrev pub EntersAsWhole : Type 0
-  EntersAsWhole = Tries shape Whole before found after (entered AsWhole before) (refused OfGate Whole found (entered WholeReturning before))
+  EntersAsWhole = Tries shape Whole before found after (entered AsWhole before)
+      (refused OfGate Whole found (entered WholeReturning before))
 
 -- a writer's place, or a place that was refused, is given up
 abbrev pub LeavesGate : {N : Type 0} → View N → View N → Type 0

@@ -39,7 +39,8 @@ pub record IsGateCounted (word writers wholes lasting_writers lasting_wholes : �
   -- a writer stands beside no whole one but such as are about to leave, and the other way about
   pub apart : 0 < lasting_wholes → lasting_writers ≡ 0
 
--- It reads the gate word, and the gate place of each view. That a view with dirt has a writer's place stands with the dirt.
+-- It reads the gate word, and the gate place of each view. That a view with dirt has a writer's
+-- place stands with the dirt.
 abbrev pub GateHolds : ℕ → List GatePlace → Type 0
 GateHolds word places = IsGateCounted word (sum_by writers_of places) (sum_by wholes_of places)
     (sum_by lasting_writers_of places) (sum_by lasting_wholes_of places)

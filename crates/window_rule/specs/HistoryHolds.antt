@@ -1,4 +1,5 @@
--- The part of the invariant on the history: it is the longest that a view has seen, and it is legal.
+-- The part of the invariant on the history: it is the longest that a view has seen, and it is
+-- legal.
 use Rattle.std.specs.Prelude.{◌≡◌, ℕ, ◌+◌, ◌<◌, ◌==◌, Bool, List, [], ◌∷◌, length, if◌then◌else◌}
 use Rattle.std.specs.List.{AllByRecursion}
 use mathlib.Core.List.{IsPrefix}
@@ -19,15 +20,18 @@ is_among rank (right ∷ more) = if right == rank then Bool.true else is_among r
 -- the numbers, from this one on, of the entries that one of these ranks made
 abbrev pub numbers_from : {N : Type 0} → ℕ → List ℕ → List (Entry N) → List ℕ
 numbers_from k rights [] = []
-numbers_from k rights (entry ∷ more) = if is_among entry.rank rights then k ∷ numbers_from (k + 1) rights more else numbers_from (k + 1) rights more
+numbers_from k rights (entry ∷ more) = if is_among entry.rank rights then k ∷ numbers_from
+    (k + 1) rights more else numbers_from (k + 1) rights more
 
 pub record IsChronicle {N : Type 0} (history : List (Entry N)) (one : Chronicle N) : Type 0 where
   pub begins : IsPrefix one.seen history
   pub own : one.own ≡ numbers_from 0 one.rights one.seen
   -- its ranks made no entry that it has not seen
-  pub rest : AllByRecursion (λ (entry : Entry N). is_among entry.rank one.rights ≡ Bool.false) begins.0
+  pub rest : AllByRecursion
+      (λ (entry : Entry N). is_among entry.rank one.rights ≡ Bool.false) begins.0
 
--- what a view was told of two views at once, when they were joined: each had seen a beginning of what this one has, and
+-- what a view was told of two views at once, when they were joined: each had seen a beginning of
+-- what this one has, and
 -- its ranks made no entry since. It reads nothing but the view
 abbrev pub IsHeard : {N : Type 0} → List (Entry N) → Chronicle N → Type 0
 IsHeard seen one = IsPrefix one.seen seen × (one.own ≡ numbers_from 0 one.rights seen)
@@ -43,7 +47,8 @@ abbrev pub AreHeard : {N : Type 0} → Past N → Type 0
 AreHeard past = AllByRecursion (IsHeard past.seen) past.heard
 
 -- It reads the commit word, and the rights and the history of each view.
-pub record HistoryHolds {N : Type 0} (fits : Shape → Entry N → Type 0) (shape : Shape) (commits : ℕ) (history : List (Entry N)) (views : List (View N)) : Type 0 where
+pub record HistoryHolds {N : Type 0} (fits : Shape → Entry N → Type 0) (shape : Shape) (commits : ℕ)
+    (history : List (Entry N)) (views : List (View N)) : Type 0 where
   pub counted : commits ≡ length history
   -- a view has seen all of it
   pub held : (id : ℕ) × (one : View N) × (get_elem? views id ≡ some one) × (one.seen ≡ history)

@@ -9,7 +9,8 @@ known_of (one ∷ more) object = if same_place one.0 object then Some one.1 else
 
 abbrev pub without_known : List (Place × Known) → Place → List (Place × Known)
 without_known [] object = []
-without_known (one ∷ more) object = if same_place one.0 object then without_known more object else one ∷ without_known more object
+without_known (one ∷ more) object =
+    if same_place one.0 object then without_known more object else one ∷ without_known more object
 
 -- the chain of an object, if the view knows the object
 abbrev pub chain_in : Option Known → List Place
@@ -19,9 +20,12 @@ chain_in (Some known) = known.chain
 -- the word of a block that was stored or loaded last
 abbrev pub cell_of : List Cell → Place → ℕ → Option ℕ
 cell_of [] block index = None
-cell_of (one ∷ more) block index = if same_place one.block block && one.index == index then Some one.word else cell_of more block index
+cell_of (one ∷ more) block index =
+    if same_place one.block block && one.index == index then Some one.word else cell_of more
+    block index
 
 -- nothing is known of the block's words
 abbrev pub without_cells : List Cell → Place → List Cell
 without_cells [] block = []
-without_cells (one ∷ more) block = if same_place one.block block then without_cells more block else one ∷ without_cells more block
+without_cells (one ∷ more) block =
+    if same_place one.block block then without_cells more block else one ∷ without_cells more block

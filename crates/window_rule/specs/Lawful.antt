@@ -39,7 +39,8 @@ pub record Ground (N : Type 0) : Type 0 where
   pub owner : Place → Holder
   pub opener : Place → Option ℕ
 
-pub record Holds {N : Type 0} (fits : Shape → Entry N → Type 0) (shape : Shape) (words : Words) (views : List (View N)) (ground : Ground N) : Type 0 where
+pub record Holds {N : Type 0} (fits : Shape → Entry N → Type 0) (shape : Shape) (words : Words)
+    (views : List (View N)) (ground : Ground N) : Type 0 where
   pub rights : RightsHold shape (words Commit) (map stake_of views)
   pub spent : SpentHold views
   pub locks : LocksHold shape (locks_in words) (map locks_of views)
@@ -59,11 +60,13 @@ pub record Holds {N : Type 0} (fits : Shape → Entry N → Type 0) (shape : Sha
   pub notes : NotesHold shape (heads_in words) ground.free views
   pub stamps : StampsHold shape (stamps_in words) (words Commit) ground.opener views
 
-pub record IsLawful {N : Type 0} (fits : Shape → Entry N → Type 0) (shape : Shape) (words : Words) (views : List (View N)) : Type 0 where
+pub record IsLawful {N : Type 0} (fits : Shape → Entry N → Type 0) (shape : Shape) (words : Words)
+    (views : List (View N)) : Type 0 where
   pub ground : Ground N
   pub holds : Holds fits shape words views ground
 
 -- the rule of the table
-pub record IsRuled {S N : Type 0} (fits : Shape → Entry N → Type 0) (shape : Shape) (state : State S (View N)) : Type 0 where
+pub record IsRuled {S N : Type 0} (fits : Shape → Entry N → Type 0) (shape : Shape)
+    (state : State S (View N)) : Type 0 where
   pub sized : length state.words ≡ window_words shape
   pub lawful : IsLawful fits shape (words_in shape state.words) state.views

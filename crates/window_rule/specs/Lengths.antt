@@ -11,14 +11,20 @@ use Rattle.window_rule.specs.ContentsHold.{Lasts}
 
 -- the object is known from now on, and so is all of the history
 abbrev pub measured : {N : Type 0} → Place → Known → List (Entry N) → View N → View N
-measured object known history view = record view { known = (object, known) ∷ without_known view.known object; seen = history; heard = [] }
+measured object known history view =
+    record view {
+      known = (object, known) ∷ without_known view.known object;
+      seen = history;
+      heard = [];
+    }
 
 -- the view may rely on what it reads of the object
 pub record MayRead {N : Type 0} (view : View N) (object : Place) : Type 0 where
   pub clean : dirt_of view.dirty object ≡ None
   pub lasting : Lasts (hold_of view.locks object) ⊎ (view.gate ≡ AsWhole)
 
-pub record Measures {N : Type 0} (object : Place) (before : View N) (found : ℕ) (after : View N) : Type 0 where
+pub record Measures {N : Type 0} (object : Place) (before : View N) (found : ℕ)
+    (after : View N) : Type 0 where
   pub known : Known
   pub history : List (Entry N)
   pub goes_on : IsPrefix before.seen history

@@ -11,7 +11,8 @@ hold_of (one ∷ more) object = if same_place one.0 object then Some one.1 else 
 
 abbrev pub without_lock : Locks → Place → Locks
 without_lock [] object = []
-without_lock (one ∷ more) object = if same_place one.0 object then without_lock more object else one ∷ without_lock more object
+without_lock (one ∷ more) object =
+    if same_place one.0 object then without_lock more object else one ∷ without_lock more object
 
 -- these locks, with the object locked so and no longer otherwise
 abbrev pub with_lock : Locks → Place → Hold → Locks

@@ -1,4 +1,5 @@
--- The part of the invariant on locks: each lock word counts the locks that views have on its object.
+-- The part of the invariant on locks: each lock word counts the locks that views have on its
+-- object.
 use Rattle.std.specs.Prelude.{◌≡◌, ℕ, ◌≤◌, List, Some}
 use mathlib.Core.Option.{some}
 use lib.ListN.{get_elem?}
@@ -18,7 +19,9 @@ pub record IsCounted (word shares lasting marks : ℕ) : Type 0 where
 -- It reads the lock words, and the locks of each view.
 pub record LocksHold (shape : Shape) (word_of : Place → ℕ) (all : List Locks) : Type 0 where
   pub counted : (object : Place) → IsBlock shape object
-      → IsCounted (word_of object) (in_all shares_of object all) (in_all lasting_of object all) (in_all marks_of object all)
+      → IsCounted (word_of object) (in_all shares_of object all) (in_all lasting_of object all)
+      (in_all marks_of object all)
   -- what is locked is a block of the window
-  pub of_blocks : (id : ℕ) (locks : Locks) (object : Place) (hold : Hold) → get_elem? all id ≡ some locks
+  pub of_blocks : (id : ℕ) (locks : Locks) (object : Place) (hold : Hold)
+      → get_elem? all id ≡ some locks
       → hold_of locks object ≡ Some hold → IsBlock shape object

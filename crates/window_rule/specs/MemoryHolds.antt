@@ -1,4 +1,5 @@
--- The part of the invariant on what views know of objects: it is what the history that they have seen says.
+-- The part of the invariant on what views know of objects: it is what the history that they have
+-- seen says.
 use Rattle.std.specs.Prelude.{◌≡◌, List, Some}
 use Rattle.rma_layout.specs.Shape.{Shape}
 use Rattle.rma_layout.specs.Placement.{Place, IsBlock}
@@ -16,7 +17,9 @@ abbrev pub memory_of : {N : Type 0} → View N → Memory N
 memory_of view = record { known = view.known; seen = view.seen }
 
 abbrev pub Remembers : {N : Type 0} → Shape → Memory N → Type 0
-Remembers shape memory = (object : Place) (known : Known) → known_of memory.known object ≡ Some known → IsBlock shape object × (content_of (store_after memory.seen) object ≡ known.content)
+Remembers shape memory = (object : Place) (known : Known)
+    → known_of memory.known object ≡ Some known
+    → IsBlock shape object × (content_of (store_after memory.seen) object ≡ known.content)
 
 -- It reads no word, and what each view knows and has seen.
 abbrev pub MemoryHolds : {N : Type 0} → Shape → List (View N) → Type 0

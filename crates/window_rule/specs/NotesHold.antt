@@ -25,7 +25,8 @@ pub record IsCurrent (heads : ℕ → ℕ) (free : ℕ → List Place) (note : H
   pub list : note.list ≡ free note.rank
   pub next : (next : ℕ) → note.next ≡ Some next → next ≡ number_to (behind note.list)
 
--- the tag of a head never falls, and while it is the same the list is the same. So an exchange that finds the noted head
+-- the tag of a head never falls, and while it is the same the list is the same. So an exchange that
+-- finds the noted head
 -- finds the noted list
 pub record IsNoted (heads : ℕ → ℕ) (free : ℕ → List Place) (note : HeadNote) : Type 0 where
   pub tag : tag_of note.head ≤ tag_of (heads note.rank)
@@ -36,10 +37,12 @@ pub record IsSure (heads : ℕ → ℕ) (book : Notebook) : Type 0 where
   pub now : AllByRecursion (λ (note : HeadNote). note.head ≡ heads note.rank) book.notes
   pub bounds : AllByRecursion (λ (one : ℕ × ℕ). tag_of (heads one.0) ≤ one.1) book.bounds
 
-pub record AreNoted (shape : Shape) (heads : ℕ → ℕ) (free : ℕ → List Place) (book : Notebook) : Type 0 where
+pub record AreNoted (shape : Shape) (heads : ℕ → ℕ) (free : ℕ → List Place)
+    (book : Notebook) : Type 0 where
   pub notes : AllByRecursion (IsNoted heads free) book.notes
   pub alone : StandsAlone shape book.rights → IsSure heads book
 
 -- It reads the heads and the free lists, and the rights, notes and bounds of each view.
 abbrev pub NotesHold : {N : Type 0} → Shape → (ℕ → ℕ) → (ℕ → List Place) → List (View N) → Type 0
-NotesHold {N} shape heads free views = EachView (notebook_of {N = N}) (λ _. AreNoted shape heads free) views
+NotesHold {N} shape heads free views = EachView (notebook_of {N = N})
+    (λ _. AreNoted shape heads free) views

@@ -1,4 +1,5 @@
--- What stands at each object and in each free list. It is no word of the window: the invariant says that there are such
+-- What stands at each object and in each free list. It is no word of the window: the invariant says
+-- that there are such
 -- objects and lists, and each fact of it ties them either to words or to views.
 use Rattle.std.specs.Prelude.{◌≡◌, ℕ, ◌<◌, ◌≤◌, get_or, ◌+◌, ◌-◌, ◌/◌, ◌%◌, ◌^◌, ◌==◌, ◌&&◌, not, List, [], ◌∷◌, length, Option, Some, None, if◌then◌else◌}
 use Rattle.std.specs.List.{AllByRecursion}
@@ -33,26 +34,36 @@ abbrev pub BeginsAt : Place → List Place → Type 0
 BeginsAt object [] = Unit {0}
 BeginsAt object (block ∷ more) = block ≡ object
 
--- the blocks that an object with so much content has. One that is not reserved has none where it is empty
+-- the blocks that an object with so much content has. One that is not reserved has none where it is
+-- empty
 abbrev pub chain_length : Shape → Place → List ℕ → ℕ
-chain_length shape object content = if not (is_reserved shape object.block) && is_empty content then 0 else blocks_for (length content) (shape.words - 1)
+chain_length shape object content = if not
+    (is_reserved shape object.block) && is_empty content then 0 else blocks_for (length content)
+    (shape.words - 1)
 
--- the words of the window keep this content of the object in this chain. That its blocks are blocks of the window, each
+-- the words of the window keep this content of the object in this chain. That its blocks are blocks
+-- of the window, each
 -- once, is said by the part on blocks
-pub record IsKeptIn (shape : Shape) (sizes : Place → ℕ) (cells : Place → ℕ → ℕ) (object : Place) (chain : List Place) (content : List ℕ) : Type 0 where
+pub record IsKeptIn (shape : Shape) (sizes : Place → ℕ) (cells : Place → ℕ → ℕ) (object : Place)
+    (chain : List Place) (content : List ℕ) : Type 0 where
   pub size : sizes object ≡ length content
   pub few_words : length content ≤ 2 ^ 20
   pub blocks : length chain ≡ chain_length shape object content
   pub linked : AreLinked cells chain
-  pub payload : (k : ℕ) → k < length content → cells (get_or chain (k / (shape.words - 1)) metadata) (1 + k % (shape.words - 1)) ≡ get_or content k 0
+  pub payload : (k : ℕ) → k < length content
+      → cells (get_or chain (k / (shape.words - 1)) metadata)
+      (1 + k % (shape.words - 1)) ≡ get_or content k 0
 
-abbrev pub IsKept : Shape → (Place → ℕ) → (Place → ℕ → ℕ) → Place → List Place → Option (List ℕ) → Type 0
+abbrev pub IsKept : Shape → (Place → ℕ) → (Place → ℕ → ℕ) → Place → List Place → Option (List ℕ)
+    → Type 0
 IsKept shape sizes cells object chain None = sizes object ≡ 0
-IsKept shape sizes cells object chain (Some content) = IsKeptIn shape sizes cells object chain content
+IsKept shape sizes cells object chain (Some content) =
+    IsKeptIn shape sizes cells object chain content
 
 -- It reads the length words and the cells words.
 abbrev pub ObjectsStand : Shape → (Place → ℕ) → (Place → ℕ → ℕ) → Objects → Type 0
-ObjectsStand shape sizes cells objects = (object : Place) → IsBlock shape object → IsKept shape sizes cells object (objects object).chain (objects object).content
+ObjectsStand shape sizes cells objects = (object : Place) → IsBlock shape object
+    → IsKept shape sizes cells object (objects object).chain (objects object).content
 
 -- the block numbers of a free list, or of a chain of spares, lead from each block to the next
 abbrev pub number_to : List Place → ℕ
@@ -74,7 +85,8 @@ first_of head = head % 2 ^ 20
 abbrev pub tag_of : ℕ → ℕ
 tag_of head = head / 2 ^ 20
 
-pub record IsFreeList (heads : ℕ → ℕ) (nexts : Place → ℕ) (rank : ℕ) (list : List Place) : Type 0 where
+pub record IsFreeList (heads : ℕ → ℕ) (nexts : Place → ℕ) (rank : ℕ)
+    (list : List Place) : Type 0 where
   pub first : first_of (heads rank) ≡ number_to list
   pub threaded : AreThreaded nexts list
   pub one_rank : AllByRecursion (λ block. block.rank ≡ rank) list

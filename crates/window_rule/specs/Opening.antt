@@ -8,13 +8,16 @@ use Rattle.rma_layout.specs.Placement.{Place}
 use Rattle.window_rule.specs.View.{View, HeadNote, spent}
 use Rattle.rma_layout.specs.Words.{IsWord, word_in}
 
--- the block behind this one in the free list of its rank. They rise from the first that is not reserved, and 0 ends the list
+-- the block behind this one in the free list of its rank. They rise from the first that is not
+-- reserved, and 0 ends the list
 abbrev pub first_next : Shape → ℕ → ℕ
-first_next shape block = if nat_le (reserved_blocks shape) block && nat_lt (block + 1) shape.blocks then block + 1 else 0
+first_next shape block = if nat_le (reserved_blocks shape) block && nat_lt
+    (block + 1) shape.blocks then block + 1 else 0
 
 -- the head of each rank: the tag 0, and the first block that is not reserved, if there is one
 abbrev pub first_head_word : Shape → ℕ
-first_head_word shape = if nat_lt (reserved_blocks shape) shape.blocks then reserved_blocks shape else 0
+first_head_word shape = if nat_lt
+    (reserved_blocks shape) shape.blocks then reserved_blocks shape else 0
 
 abbrev pub first_word_of : Shape → Word → ℕ
 first_word_of shape (Lock object) = 0
@@ -30,12 +33,14 @@ first_word_of shape Commit = 0
 abbrev pub order_of : Shape → Place → ℕ
 order_of shape block = block.rank * shape.blocks + block.block
 
--- the heads of the ranks below this one are set, and so are the free-list words of the blocks that come before a place in
+-- the heads of the ranks below this one are set, and so are the free-list words of the blocks that
+-- come before a place in
 -- the order of all blocks. Every other word is 0
 abbrev pub set_so_far : Shape → ℕ → ℕ → Word → ℕ
 set_so_far shape heads blocks (Lock object) = 0
 set_so_far shape heads blocks (Length object) = 0
-set_so_far shape heads blocks (FreeList block) = if nat_lt (order_of shape block) blocks then first_next shape block.block else 0
+set_so_far shape heads blocks (FreeList block) = if nat_lt
+    (order_of shape block) blocks then first_next shape block.block else 0
 set_so_far shape heads blocks (Stamp object) = 0
 set_so_far shape heads blocks (Data block i) = 0
 set_so_far shape heads blocks (Head rank) = if nat_lt rank heads then first_head_word shape else 0
@@ -50,16 +55,20 @@ pub record AreWords (shape : Shape) (words : List ℕ) (said : Word → ℕ) : T
 -- so many blocks of a rank, one behind the other
 abbrev pub rising_blocks : ℕ → ℕ → ℕ → List Place
 rising_blocks rank start zero = []
-rising_blocks rank start (suc n) = record { rank = rank; block = start } ∷ rising_blocks rank (start + 1) n
+rising_blocks rank start (suc n) = record { rank = rank; block = start } ∷ rising_blocks rank
+    (start + 1) n
 
 -- the free list that a rank begins with: its blocks that are not reserved, rising
 abbrev pub first_list : Shape → ℕ → List Place
-first_list shape rank = rising_blocks rank (reserved_blocks shape) (shape.blocks - reserved_blocks shape)
+first_list shape rank = rising_blocks rank (reserved_blocks shape)
+    (shape.blocks - reserved_blocks shape)
 
 abbrev pub first_note : Shape → ℕ → HeadNote
-first_note shape rank = record { rank = rank; head = first_head_word shape; next = None; list = first_list shape rank }
+first_note shape rank =
+    record { rank = rank; head = first_head_word shape; next = None; list = first_list shape rank }
 
--- the view that a window begins with: it stands for every rank, knows every free list, and has done nothing
+-- the view that a window begins with: it stands for every rank, knows every free list, and has done
+-- nothing
 abbrev pub first_view : {N : Type 0} → Shape → View N
 first_view shape = record spent {
   rights = range_with_len 0 shape.ranks;

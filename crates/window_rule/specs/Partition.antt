@@ -34,7 +34,12 @@ part_of free owns objects (FreeOf rank) = free rank
 part_of free owns objects (OwnOf id) = places_of (get_or owns id [])
 part_of free owns objects (Within object) = (objects object).chain
 
--- each block of the window is with its owner, once, and with no other. What is no block of the window is nowhere
-pub record IsPartition (shape : Shape) (part : Holder → List Place) (owner : Place → Holder) : Type 0 where
-  pub each : (holder : Holder) (block : Place) → times block (part holder) ≡ one_if (is_block shape block && same_holder (owner block) holder)
-  pub reserved : (block : Place) → IsBlock shape block → IsReserved shape block.block → owner block ≡ Within block
+-- each block of the window is with its owner, once, and with no other. What is no block of the
+-- window is nowhere
+pub record IsPartition (shape : Shape) (part : Holder → List Place) (owner : Place
+    → Holder) : Type 0 where
+  pub each : (holder : Holder) (block : Place)
+      → times block (part holder) ≡ one_if
+      (is_block shape block && same_holder (owner block) holder)
+  pub reserved : (block : Place) → IsBlock shape block → IsReserved shape block.block
+      → owner block ≡ Within block

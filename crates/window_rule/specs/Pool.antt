@@ -26,11 +26,13 @@ note_of (one ∷ more) rank = if one.rank == rank then Some one else note_of mor
 
 abbrev pub without_note : List HeadNote → ℕ → List HeadNote
 without_note [] rank = []
-without_note (one ∷ more) rank = if one.rank == rank then without_note more rank else one ∷ without_note more rank
+without_note (one ∷ more) rank =
+    if one.rank == rank then without_note more rank else one ∷ without_note more rank
 
 -- the tag of the rank is one higher
 abbrev pub raised : ℕ → List (ℕ × ℕ) → List (ℕ × ℕ)
-raised rank bounds = map (λ (one : ℕ × ℕ). (one.0, if one.0 == rank then one.1 + 1 else one.1)) bounds
+raised rank bounds = map
+    (λ (one : ℕ × ℕ). (one.0, if one.0 == rank then one.1 + 1 else one.1)) bounds
 
 abbrev pub rank_of : Word → ℕ
 rank_of (Lock object) = 0
@@ -72,15 +74,19 @@ module _ {N : Type 0} (rank : ℕ) where
     misses = view.misses ++ record { rank = rank; loaded = head; found = found } ∷ [];
   }
 
--- an exchange on a head: it is made where the head is the noted one, and always where the view is alone
-pub record Exchanges {N : Type 0} (shape : Shape) (head : ℕ) (before : View N) (found : ℕ) (after done failure : View N) : Type 0 where
+-- an exchange on a head: it is made where the head is the noted one, and always where the view is
+-- alone
+pub record Exchanges {N : Type 0} (shape : Shape) (head : ℕ) (before : View N) (found : ℕ)
+    (after done failure : View N) : Type 0 where
   pub took : found ≡ head → after ≡ done
   pub failed : found ≢ head → after ≡ failure
   pub alone : IsAlone shape before → found ≡ head
 
 -- a block that is taken was with no view
-pub record Pops {N : Type 0} (shape : Shape) (rank head next : ℕ) (before : View N) (found : ℕ) (after : View N) : Type 0 where
-  pub exchanges : Exchanges shape head before found after (popped rank (on_rank rank (first_of head)) next before) (missed rank head found before)
+pub record Pops {N : Type 0} (shape : Shape) (rank head next : ℕ) (before : View N) (found : ℕ)
+    (after : View N) : Type 0 where
+  pub exchanges : Exchanges shape head before found after
+      (popped rank (on_rank rank (first_of head)) next before) (missed rank head found before)
   pub fresh : found ≡ head → times (on_rank rank (first_of head)) (places_of before.private) ≡ 0
 
 -- what the view knows of a block of its own
@@ -90,28 +96,39 @@ own_of (one ∷ more) block = if same_place one.block block then Some one else o
 
 abbrev pub without_own : List OwnBlock → Place → List OwnBlock
 without_own [] block = []
-without_own (one ∷ more) block = if same_place one.block block then more else one ∷ without_own more block
+without_own (one ∷ more) block =
+    if same_place one.block block then more else one ∷ without_own more block
 
 -- the free-list word of the block is known
 abbrev pub with_link : Place → ℕ → List OwnBlock → List OwnBlock
-with_link block next own = map (λ (one : OwnBlock). if same_place one.block block then record one { next = Some next } else one) own
+with_link block next own = map
+    (λ (one : OwnBlock).
+    if same_place one.block block then record one { next = Some next } else one) own
 
 abbrev pub without_bound : List (ℕ × ℕ) → ℕ → List (ℕ × ℕ)
 without_bound [] rank = []
-without_bound (one ∷ more) rank = if one.0 == rank then without_bound more rank else one ∷ without_bound more rank
+without_bound (one ∷ more) rank =
+    if one.0 == rank then without_bound more rank else one ∷ without_bound more rank
 
 module _ {N : Type 0} where
   -- a head was loaded
   abbrev pub headed : ℕ → ℕ → List Place → View N → View N
   headed rank head list view = record view {
-    notes = record { rank = rank; head = head; next = None; list = list } ∷ without_note view.notes rank;
+    notes = record { rank = rank; head = head; next = None; list = list }
+        ∷ without_note view.notes rank;
     bounds = (rank, tag_of head) ∷ without_bound view.bounds rank;
-    looks = view.looks ++ record { rank = rank; head = head; own_blocks = count_on rank (places_of view.private) } ∷ [];
+    looks = view.looks
+        ++ record {
+          rank = rank;
+          head = head;
+          own_blocks = count_on rank (places_of view.private);
+        } ∷ [];
   }
 
   -- and the word of its block
   abbrev pub nexted : HeadNote → ℕ → View N → View N
-  nexted note next view = record view { notes = record note { next = Some next } ∷ without_note view.notes note.rank }
+  nexted note next view =
+      record view { notes = record note { next = Some next } ∷ without_note view.notes note.rank }
 
   abbrev pub linked : Place → ℕ → View N → View N
   linked block next view = record view { private = with_link block next view.private }
@@ -125,14 +142,21 @@ module _ {N : Type 0} where
 
   -- the tag of the rank is 0 again
   abbrev pub renewed : ℕ → View N → View N
-  renewed rank view = record view { notes = without_note view.notes rank; bounds = (rank, 0) ∷ without_bound view.bounds rank }
+  renewed rank view =
+      record view {
+        notes = without_note view.notes rank;
+        bounds = (rank, 0) ∷ without_bound view.bounds rank;
+      }
 
-pub record Heads {N : Type 0} (shape : Shape) (rank : ℕ) (before : View N) (found : ℕ) (after : View N) : Type 0 where
+pub record Heads {N : Type 0} (shape : Shape) (rank : ℕ) (before : View N) (found : ℕ)
+    (after : View N) : Type 0 where
   pub list : List Place
   pub view : after ≡ headed rank found list before
   pub first : first_of found ≡ number_to list
   -- a view that is alone and has nothing detached knows how long the list is
-  pub counted : IsAlone shape before → before.dirty ≡ [] → length list + contents_use shape (store_after before.seen) rank + count_on rank (places_of before.private) ≡ shape.blocks
+  pub counted : IsAlone shape before → before.dirty ≡ []
+      → length list + contents_use shape (store_after before.seen) rank + count_on rank
+      (places_of before.private) ≡ shape.blocks
 
 pub record MayNext {N : Type 0} (view : View N) (block : Place) : Type 0 where
   pub note : HeadNote
@@ -140,7 +164,8 @@ pub record MayNext {N : Type 0} (view : View N) (block : Place) : Type 0 where
   pub first : first_of note.head ≡ block.block
   pub some_block : block.block ≢ 0
 
-pub record Nexts {N : Type 0} (shape : Shape) (block : Place) (before : View N) (found : ℕ) (after : View N) : Type 0 where
+pub record Nexts {N : Type 0} (shape : Shape) (block : Place) (before : View N) (found : ℕ)
+    (after : View N) : Type 0 where
   pub note : HeadNote
   pub noted : note_of before.notes block.rank ≡ Some note
   pub view : after ≡ nexted note found before
@@ -154,7 +179,8 @@ pub record MayLink {N : Type 0} (view : View N) (block : Place) (next : ℕ) : T
 abbrev pub Links : {N : Type 0} → Place → View N → ℕ → View N → Type 0
 Links block before next after = after ≡ linked block next before
 
-pub record MayPush {N : Type 0} (shape : Shape) (view : View N) (block : Place) (head : ℕ) : Type 0 where
+pub record MayPush {N : Type 0} (shape : Shape) (view : View N) (block : Place)
+    (head : ℕ) : Type 0 where
   pub block_is : IsBlock shape block
   pub knows : KnowsHead view block.rank head
   pub own : OwnBlock
@@ -165,7 +191,8 @@ pub record MayPush {N : Type 0} (shape : Shape) (view : View N) (block : Place) 
 
 abbrev pub Pushes : {N : Type 0} → Shape → ℕ → ℕ → ℕ → View N → ℕ → View N → Type 0
 Pushes shape rank head first before found after =
-    Exchanges shape head before found after (pushed (on_rank rank first) before) (missed rank head found before)
+    Exchanges shape head before found after (pushed (on_rank rank first) before)
+    (missed rank head found before)
 
 pub record MayRenew {N : Type 0} (shape : Shape) (view : View N) (rank head : ℕ) : Type 0 where
   pub alone : IsAlone shape view
@@ -173,4 +200,5 @@ pub record MayRenew {N : Type 0} (shape : Shape) (view : View N) (rank head : �
 
 -- the head was loaded, and its tag set to 0
 abbrev pub Renews : {N : Type 0} → ℕ → View N → View N → Type 0
-Renews rank before after = (head : ℕ) × (list : List Place) × (after ≡ renewed rank (headed rank head list before))
+Renews rank before after = (head : ℕ) × (list : List Place)
+    × (after ≡ renewed rank (headed rank head list before))

@@ -32,8 +32,10 @@ AreRanks ranks (right ∷ more) = (right < ranks) × AreRanks ranks more
 -- It reads the commit word, and the rights and the allowance of each view.
 pub record RightsHold (shape : Shape) (commits : ℕ) (stakes : List Stake) : Type 0 where
   -- each rank's right is in one view, and stands there once
-  pub each_once : (rank : ℕ) → rank < shape.ranks → sum_by (λ stake. right_count rank stake.rights) stakes ≡ 1
-  pub are_ranks : (id : ℕ) (stake : Stake) → get_elem? stakes id ≡ some stake → AreRanks shape.ranks stake.rights
+  pub each_once : (rank : ℕ) → rank < shape.ranks
+      → sum_by (λ stake. right_count rank stake.rights) stakes ≡ 1
+  pub are_ranks : (id : ℕ) (stake : Stake) → get_elem? stakes id ≡ some stake
+      → AreRanks shape.ranks stake.rights
   -- so that the commit word never wraps
   pub few_commits : commits + sum_by (λ stake. stake.allowance) stakes ≤ 2 ^ 62
 

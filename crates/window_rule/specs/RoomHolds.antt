@@ -1,4 +1,5 @@
--- The part of the invariant on room: a view has, on each rank, as many blocks as the contents that it keeps ask for.
+-- The part of the invariant on room: a view has, on each rank, as many blocks as the contents that
+-- it keeps ask for.
 use Rattle.std.specs.Prelude.{ℕ, zero, suc, ◌+◌, ◌≤◌, ◌==◌, List, length, Option, Some, None}
 use Rattle.window_rule.specs.EachView.{EachView}
 use Rattle.std.specs.List.{count_by}
@@ -35,14 +36,17 @@ kept_of None = 0
 kept_of (Some dirt) = length dirt.blocks
 
 abbrev pub asked_at : Shape → List Dirt → ℕ → ℕ → ℕ
-asked_at shape dirty rank block = asked_for shape (place_on rank block) (dirt_of dirty (place_on rank block))
+asked_at shape dirty rank block = asked_for shape (place_on rank block)
+    (dirt_of dirty (place_on rank block))
 
 abbrev pub kept_at : List Dirt → ℕ → ℕ → ℕ
 kept_at dirty rank block = kept_of (dirt_of dirty (place_on rank block))
 
 -- an object's blocks all lie on its own rank, so those of a rank are all of its objects'
 abbrev pub HasStock : Shape → Stock → Type 0
-HasStock shape stock = (rank : ℕ) → sum_below shape.blocks (asked_at shape stock.dirty rank) ≤ count_on rank (places_of stock.private) + sum_below shape.blocks (kept_at stock.dirty rank)
+HasStock shape stock = (rank : ℕ)
+    → sum_below shape.blocks (asked_at shape stock.dirty rank) ≤ count_on rank
+    (places_of stock.private) + sum_below shape.blocks (kept_at stock.dirty rank)
 
 -- It reads no word, and the blocks of its own and the dirt of each view.
 abbrev pub RoomHolds : {N : Type 0} → Shape → List (View N) → Type 0

@@ -6,4 +6,5 @@ use Rattle.window_rule.specs.View.{View, spent}
 
 -- It reads each view that has no right.
 abbrev pub SpentHold : {N : Type 0} → List (View N) → Type 0
-SpentHold {N} views = (id : ℕ) (view : View N) → get_elem? views id ≡ some view → view.rights ≡ [] → view ≡ spent
+SpentHold {N} views = (id : ℕ) (view : View N) → get_elem? views id ≡ some view → view.rights ≡ []
+    → view ≡ spent

@@ -7,9 +7,11 @@ use Rattle.window_rule.specs.HistoryHolds.{AreHeard, past_of, chronicle_of, is_a
 
 abbrev pub without_right : ℕ → List ℕ → List ℕ
 without_right rank [] = []
-without_right rank (right ∷ more) = if right == rank then without_right rank more else right ∷ without_right rank more
+without_right rank (right ∷ more) =
+    if right == rank then without_right rank more else right ∷ without_right rank more
 
--- the view with all rights but one, and so many commits fewer. It keeps its notes, but no bound of a tag
+-- the view with all rights but one, and so many commits fewer. It keeps its notes, but no bound of
+-- a tag
 abbrev pub remaining : {N : Type 0} → ℕ → ℕ → View N → View N
 remaining rank commits view = record view {
   rights = without_right rank view.rights;
@@ -60,7 +62,8 @@ pub record Settles {N : Type 0} (before after : View N) : Type 0 where
   -- no block was with both
   pub once : (block : Place) → times block (places_of before.private) ≤ 1
 
--- the view has no lock and no place in the gate. So it has read nothing, and has nothing detached or open
+-- the view has no lock and no place in the gate. So it has read nothing, and has nothing detached
+-- or open
 pub record IsIdle {N : Type 0} (view : View N) : Type 0 where
   pub locks : view.locks ≡ []
   pub gate : view.gate ≡ Outside

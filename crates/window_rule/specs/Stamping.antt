@@ -8,7 +8,8 @@ use Rattle.window_rule.specs.StampsHold.{opened_of}
 
 abbrev pub without_opened : List (Place × Bool) → Place → List (Place × Bool)
 without_opened [] object = []
-without_opened (one ∷ more) object = if same_place one.0 object then without_opened more object else one ∷ without_opened more object
+without_opened (one ∷ more) object =
+    if same_place one.0 object then without_opened more object else one ∷ without_opened more object
 
 abbrev pub toggled_from : Option Bool → List (Place × Bool) → Place → List (Place × Bool)
 toggled_from None opened object = (object, Bool.false) ∷ opened
@@ -19,7 +20,8 @@ abbrev pub toggled : List (Place × Bool) → Place → List (Place × Bool)
 toggled opened object = toggled_from (opened_of opened object) opened object
 
 abbrev pub stamped : {N : Type 0} → Place → View N → View N
-stamped object view = record view { stamps = record view.stamps { opened = toggled view.stamps.opened object } }
+stamped object view =
+    record view { stamps = record view.stamps { opened = toggled view.stamps.opened object } }
 
 pub record MayStamp {N : Type 0} (view : View N) (object : Place) : Type 0 where
   pub marked : hold_of view.locks object ≡ Some Marked

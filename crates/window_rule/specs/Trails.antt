@@ -27,7 +27,8 @@ trail_of view = record {
   takes = view.takes;
 }
 
--- the rank stands for the same ranks, and has committed nothing. It has seen as much of the history or more, and
+-- the rank stands for the same ranks, and has committed nothing. It has seen as much of the history
+-- or more, and
 -- forgets nothing of what stood in its way
 pub record GoesOn {N : Type 0} (before after : Trail N) : Type 0 where
   pub rights : after.rights ≡ before.rights

@@ -19,7 +19,8 @@ Locks = List (Place × Hold)
 abbrev pub KnownWords : Type 0
 KnownWords = List (ℕ × ℕ)
 
--- what was read of an object word by word: how many words it has, if that was loaded, and the blocks of its chain that were met, in
+-- what was read of an object word by word: how many words it has, if that was loaded, and the
+-- blocks of its chain that were met, in
 -- the chain's order
 pub record Reading : Type 0 where
   pub size : Option ℕ
@@ -107,7 +108,8 @@ pub record Change : Type 0 where
 
 -- what a view knows of stamps
 pub record Stamps : Type 0 where
-  -- the objects whose stamps it has made odd, each with whether it has committed a write of it since
+  -- the objects whose stamps it has made odd, each with whether it has committed a write of it
+  -- since
   pub opened : List (Place × Bool)
   pub notes : List StampNote
   -- the length of the history at some moment after the notes, if it was loaded
@@ -126,12 +128,15 @@ pub record View (N : Type 0) : Type 0 where
   -- how many commits it may still make
   pub allowance : ℕ
   pub locks : Locks
-  -- what it knows of objects whose length it has loaded: of those that it has locked, and of any while it is whole in the gate
+  -- what it knows of objects whose length it has loaded: of those that it has locked, and of any
+  -- while it is whole in the gate
   pub known : List (Place × Known)
   pub dirty : List Dirt
-  -- the blocks of its own. Which of them are spares is known to the rank beside its view, since keeping a spare is no step
+  -- the blocks of its own. Which of them are spares is known to the rank beside its view, since
+  -- keeping a spare is no step
   pub private : List OwnBlock
-  -- the words of the blocks of its own, and of those of the objects that it has detached, as far as it knows them. Of a
+  -- the words of the blocks of its own, and of those of the objects that it has detached, as far as
+  -- it knows them. Of a
   -- block that it has no more nothing is said
   pub cells : List Cell
   pub gate : GatePlace

@@ -1,4 +1,5 @@
--- The words of a window as a function of which word is meant. What is no word of the window counts as 0.
+-- The words of a window as a function of which word is meant. What is no word of the window counts
+-- as 0.
 use Rattle.std.specs.Prelude.{ℕ, ◌==◌, ◌&&◌, Bool, true, false, nat_lt, List, if◌then◌else◌}
 use Rattle.rma_layout.specs.declared.word.Word.{Word}
 use Rattle.rma_layout.specs.declared.word.Word.TheVariants.{Lock, Length, FreeList, Stamp, Data, Head, Gate, Commit}
@@ -40,7 +41,8 @@ same_word one other = false
 abbrev pub with_word : Words → Word → ℕ → Words
 with_word words word new other = if same_word other word then new else words other
 
--- The words of each kind. A part of the invariant takes those that it reads, so a change of another word leaves it as it is.
+-- The words of each kind. A part of the invariant takes those that it reads, so a change of another
+-- word leaves it as it is.
 abbrev pub locks_in : Words → Place → ℕ
 locks_in words object = words (Lock object)
 

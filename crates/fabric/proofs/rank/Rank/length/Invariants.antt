@@ -6,5 +6,6 @@ use Rattle.fabric.proofs.rank.Rank.length.Given as goal
 
 abbrev pub ghosts-load : goal.ghosts-load
 ghosts-load g a = record {
-  told = λ before found after. Following (Measures (object_of a.word)) before found after × IsTrueView g.L.Law.fits a.window.now.shape after;
+  told = λ before found after. Following (Measures (object_of a.word)) before found after
+      × IsTrueView g.L.Law.fits a.window.now.shape after;
 }

@@ -5,4 +5,5 @@ use Rattle.window_rule.specs.Trails.{Following}
 use Rattle.fabric.proofs.rank.Rank.link.Given as goal
 
 abbrev pub ghosts-store : goal.ghosts-store
-ghosts-store g a = record { told = Following (λ before next after. after ≡ linked (object_of a.word) next before) }
+ghosts-store g a =
+    record { told = Following (λ before next after. after ≡ linked (object_of a.word) next before) }

@@ -4,4 +4,5 @@ use Rattle.window_rule.specs.Trails.{Following}
 use Rattle.fabric.proofs.rank.Rank.push.Given as goal
 
 abbrev pub ghosts-compare_exchange : goal.ghosts-compare_exchange
-ghosts-compare_exchange g a = record { told = Following (Pushes a.window.now.shape (rank_of a.word) a.old (first_of a.new)) }
+ghosts-compare_exchange g a =
+    record { told = Following (Pushes a.window.now.shape (rank_of a.word) a.old (first_of a.new)) }

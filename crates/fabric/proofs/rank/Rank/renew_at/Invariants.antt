@@ -4,4 +4,5 @@ use Rattle.window_rule.specs.Trails.{Following}
 use Rattle.fabric.proofs.rank.Rank.renew_at.Given as goal
 
 abbrev pub ghosts-store : goal.ghosts-store
-ghosts-store g a = record { told = Following (λ before _ after. after ≡ renewed (rank_of a.word) before) }
+ghosts-store g a =
+    record { told = Following (λ before _ after. after ≡ renewed (rank_of a.word) before) }

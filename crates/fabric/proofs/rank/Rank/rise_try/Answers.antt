@@ -2,7 +2,8 @@ use Rattle.window_rule.proofs.LockSteps.{rise_permitted}
 use Rattle.window_rule.proofs.Trails.{following, rises_on}
 use Rattle.fabric.proofs.rank.Rank.rise_try.Goals as goal
 
-pub compare_exchange-word-requires-clause-permits : goal.compare_exchange-word-requires-clause-permits
+pub compare_exchange-word-requires-clause-permits :
+    goal.compare_exchange-word-requires-clause-permits
 compare_exchange-word-requires-clause-permits g c =
     following g.L.Law.fits _ _ _ _ _
     (rise_permitted g.L.Law.fits _ _ c.requires.object _ c.requires.shared)

@@ -6,4 +6,5 @@ abbrev pub ghosts-fetch_add : goal.ghosts-fetch_add
 ghosts-fetch_add g a = record { told = Following (Shares a.window.now.shape (object_of a.word)) }
 
 abbrev pub ghosts-fetch_sub : goal.ghosts-fetch_sub
-ghosts-fetch_sub g a = record { told = Following (λ before _ after. Returns (object_of a.word) before after) }
+ghosts-fetch_sub g a =
+    record { told = Following (λ before _ after. Returns (object_of a.word) before after) }
