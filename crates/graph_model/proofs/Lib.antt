@@ -15,6 +15,7 @@ pub mod GraphChanges
 pub mod CallChanges
 pub mod ObjectsMade
 pub mod KeepsLimits
+pub mod Largest
 pub mod Entries
 pub mod KeepsWellFormed
 pub mod CallsKeepWellFormed
