@@ -62,7 +62,7 @@ module _ {K X : Type 0} (R : K → K → Ordering) where
   pub IsMap-put : IsTotalOrder R → (k : K) (v : X) (es : List (K × X)) → IsMap R es → IsMap R (put R k v es)
   IsMap-put total k v es sorted = is_true _ (is_sorted-put R total k v es (holds _ sorted))
 
-  below-filter : (p : K × X → Bool) (k : K) (es : List (K × X)) → below_all R k es ≡ true → below_all R k (filter p es) ≡ true
+  pub below-filter : (p : K × X → Bool) (k : K) (es : List (K × X)) → below_all R k es ≡ true → below_all R k (filter p es) ≡ true
   below-filter p k [] below = refl
   below-filter p k (e ∷ es) below =
       let parts = and_parts (is_lt (R k e.0)) (below_all R k es) below in

@@ -1,4 +1,6 @@
 pub mod Sums
+pub mod MapSums
+pub mod Counting
 pub mod Sets
 pub mod OrderedMaps
 pub mod VertexSteps
@@ -9,6 +11,11 @@ pub mod Steps
 pub mod Leaving
 pub mod Transactions
 pub mod Short
+pub mod GraphChanges
+pub mod CallChanges
+pub mod ObjectsMade
+pub mod KeepsLimits
+pub mod Largest
 pub mod Entries
 pub mod KeepsWellFormed
 pub mod CallsKeepWellFormed

@@ -1,5 +1,6 @@
 -- Scripts with the replies that the definitions give them, and the sizes of small objects.
-use Rattle.std.specs.Prelude.{◌≡◌, ◌+◌, ◌*◌, ◌-◌, ◌^◌, ℕ, List, [], ◌∷◌, ◌++◌, Some, None, true, false, pos, codes, replicate}
+use Rattle.std.specs.Prelude.{◌≡◌, ◌-◌, ◌^◌, ℕ, List, [], ◌∷◌, ◌++◌, map, Some, None, true, false, pos, codes, replicate}
+use Rattle.std.specs.List.{range_with_len}
 use Rattle.gdi_kinds.specs.declared.call.Call.{Call}
 use Rattle.gdi_kinds.specs.declared.call.Call.TheVariants.{Add, Arcs, Cut, Degree, DropVertex, EAdd, EGet, ESet, ETags, EUnset, Edge, Edges, Find, Get, Has, Hood, Levels, Near, NewLabel, NewType, Parts, Props, Scan, Set, Tag, Tags, UEdge, Unset, Untag, Vertex, Vertices}
 use Rattle.gdi_kinds.specs.declared.call.Dir.TheVariants.{Outward, Inward, Undirected, Either}
@@ -14,8 +15,8 @@ use Rattle.gdi_kinds.specs.declared.value.Value.TheVariants as value
 use Rattle.gdi_kinds.specs.declared.txn.Txn.{Txn}
 use Rattle.rma_layout.specs.Shape.{Shape, default_shape}
 use Rattle.rma_layout.specs.Placement.{bucket_of}
-use Rattle.graph_model.specs.Graph.{Graph, empty_graph, new_vertex}
-use Rattle.graph_model.specs.Sizes.{words_of_vertex, words_of_bucket, words_of_names, most_words, is_too_large, words_of_bytes}
+use Rattle.graph_model.specs.Graph.{Graph, Edge as GraphEdge, EdgeKey, empty_graph, new_vertex}
+use Rattle.graph_model.specs.Sizes.{words_of_vertex, words_of_bucket, words_of_names, words_of_bytes}
 use Rattle.graph_model.specs.Transactions.{replies_to_calls, graph_after_calls, graph_after_txn}
 use Rattle.graph_model.specs.Capacity.{makes, full_rank}
 
@@ -139,9 +140,29 @@ SizesOfASelfLoop =
 abbrev pub SizeOfOneName : Type 0
 SizeOfOneName = (words_of_names (made_by (NewLabel (codes "Person") ∷ [])) ≡ 4) × (words_of_names empty_graph ≡ 0) × (words_of_bytes 9 ≡ 2)
 
+-- an edge from vertex 1 to vertex 2
+abbrev pub ray : ℕ → EdgeKey × GraphEdge
+ray ordinal = (
+  record { source = 1; ordinal = ordinal },
+  record { target = 2; undirected = false; labels = []; props = [] },
+)
+
+-- vertex 1 with these labels, and so many edges from it
+unfoldable pub star : List ℕ → ℕ → Graph
+star labels n = record {
+  labels = codes "A" ∷ codes "B" ∷ [];
+  types = [];
+  vertices = (1, record { next = n; labels = labels; props = [] }) ∷ (2, new_vertex) ∷ [];
+  edges = map ray (range_with_len 0 n);
+}
+
 -- a vertex of 209,714 edges may have one label, and neither a second one nor a further edge
 abbrev pub LargestVertex : Type 0
-LargestVertex = (5 + 5 * 209714 + 1 ≡ most_words) × (is_too_large (5 + 5 * 209714 + 2) ≡ true) × (is_too_large (5 + 5 * 209715) ≡ true)
+LargestVertex =
+    (graph_after_calls default_shape (star [] 209713) (Edge 1 2 None ∷ []) ≡ star [] 209714)
+    × IsAnswered (star [] 209713) (Edge 1 2 None ∷ []) (reply.EdgeIs 1 209713 ∷ [])
+    × IsAnswered (star [] 209714) (Edge 1 2 None ∷ Tag 1 (codes "A") ∷ Tag 1 (codes "B") ∷ Edge 1 2 None ∷ [])
+    (reply.TooLarge ∷ reply.Done ∷ reply.TooLarge ∷ reply.TooLarge ∷ [])
 
 -- people, where they live and whom they know
 abbrev pub people : Graph

@@ -22,3 +22,4 @@ pub mod Plain
 pub mod Examples
 pub mod LegalExamples
 pub mod Laws
+pub mod Limits

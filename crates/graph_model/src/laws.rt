@@ -1,4 +1,5 @@
 ghost use Rattle.graph_model.specs.MovedPlaces.{ReadingPlacesMayMove};
+ghost use Rattle.graph_model.specs.Limits.{CallKeepsObjectsShort, LegalRunKeepsLimits, TransactionKeepsLimits};
 ghost use Rattle.graph_model.specs.Laws.{AbortIsNeverFull, ComponentIsLeast, EachVertexHasAComponent, LevelIsLeast, EachWalkHasALevel, CallKeepsWellFormed, EmptyGraphIsWellFormed, HistoryIsWellFormed, TransactionKeepsWellFormed, AbortLeavesTheGraph, GraphLooksAtItsEntriesAlone, LookingCallLeavesTheGraph, LookingTransactionIsNeverFull, LookingTransactionLeavesTheGraph, NamedRankIsShort, ObjectsHaveABlock, ObjectsHaveWords, RefusedCallLeavesTheGraph, ShortTransactionIsFull};
 
 /// What leaves the graph as it is: a call that is refused, and one that only looks.
@@ -62,4 +63,13 @@ pub fn levels_are_least()
 pub fn components_are_least()
     ensures least { ComponentIsLeast }
     ensures each { EachVertexHasAComponent }
+{}
+
+/// On every graph that a legal run reaches no rank uses more blocks than it has, and no object has more words than an object
+/// may have: a call lets no object grow too long, and a transaction that isn't refused for blocks fits into them.
+#[tactic(auto, using(crate::proofs::CallChanges::call_short, crate::proofs::KeepsLimits::txn_keeps_limits))]
+pub fn limits_are_kept()
+    ensures call { CallKeepsObjectsShort }
+    ensures transaction { TransactionKeepsLimits }
+    ensures run { LegalRunKeepsLimits }
 {}
