@@ -15,3 +15,4 @@ pub mod SameVertices
 pub mod OneGraph
 pub mod Parts
 pub mod SizesAreLengths
+pub mod Indexes

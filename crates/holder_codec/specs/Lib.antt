@@ -4,8 +4,9 @@ pub mod Values
 pub mod Edges
 pub mod Bucket
 pub mod Vertex
-pub mod Reading
 pub mod Holders
+pub mod Index
+pub mod Reading
 pub mod Represents
 pub mod Parts
 pub mod Knowing

@@ -23,10 +23,13 @@ use Rattle.holder_codec.specs.declared.held_prop.HeldProp.{HeldProp}
 use Rattle.holder_codec.specs.declared.vertex_holder.VertexHolder.{VertexHolder}
 use Rattle.holder_codec.specs.declared.unread.Unread.{Unread}
 use Rattle.holder_codec.specs.declared.unread.Unread.TheVariants.{NotSpelled, NoMemory}
+use Rattle.holder_codec.specs.declared.index_entry.IndexEntry.{IndexEntry}
+use Rattle.holder_codec.specs.declared.index_holder.IndexHolder.{IndexHolder}
 use Rattle.holder_codec.specs.Order.{is_rising}
 use Rattle.holder_codec.specs.Values.{is_prop_before}
 use Rattle.holder_codec.specs.Edges.{is_record_before}
 use Rattle.holder_codec.specs.Bucket.{is_entry_before}
+use Rattle.holder_codec.specs.Index.{is_pair_before}
 
 -- numbers of 64 bits
 abbrev pub IsWords : List ℕ → Type 0
@@ -174,6 +177,12 @@ entry_at words = do
   at ← place_at id.1
   Some (record { id = id.0; at = at.0 }, at.1)
 
+unfoldable pub pair_at : List ℕ → Option (IndexEntry × List ℕ)
+pair_at words = do
+  label ← label_at words
+  id ← number_at label.1
+  Some (record { label = label.0; id = id.0 }, id.1)
+
 -- ---- holders, of all of the words
 
 unfoldable pub vertex_of_words : List ℕ → Option VertexHolder
@@ -191,4 +200,9 @@ vertex_of_words words = do
 unfoldable pub bucket_of_words : List ℕ → Option BucketHolder
 bucket_of_words words = do
   entries ← rising_at entry_at is_entry_before (length words / 2) words
+  if length entries.1 == 0 then Some (record { entries = entries.0 }) else None
+
+unfoldable pub index_of_words : List ℕ → Option IndexHolder
+index_of_words words = do
+  entries ← rising_at pair_at is_pair_before (length words / 2) words
   if length entries.1 == 0 then Some (record { entries = entries.0 }) else None

@@ -1,4 +1,4 @@
-//! Vertices and buckets as the words of an object, and back. Each holder has one spelling.
+//! Vertices, buckets and objects of the index as the words of an object, and back. Each holder has one spelling.
 #![tactic(auto)]
 
 mod bucket_entry;
@@ -6,6 +6,8 @@ mod bucket_holder;
 mod edge_form;
 mod edge_record;
 mod held_prop;
+mod index_entry;
+mod index_holder;
 mod item;
 mod items;
 mod keeps_graph;
@@ -25,6 +27,8 @@ pub use bucket_holder::BucketHolder;
 pub use edge_form::EdgeForm;
 pub use edge_record::{EdgeRecord, EdgeRecords};
 pub use held_prop::{HeldProp, HeldProps};
+pub use index_entry::{IndexEntry, IndexList};
+pub use index_holder::IndexHolder;
 pub use keeps_graph::KeepsGraph;
 pub use laws::{
     empty_store_represents_empty_graph, sizes_are_lengths, spellings_differ,

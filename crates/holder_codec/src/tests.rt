@@ -6,7 +6,7 @@ ghost use Rattle.holder_codec.specs.Represents.{Represents};
 ghost use Rattle.holder_codec.specs.Keeping.{keeps_by_steps};
 
 use crate::{
-    BucketHolder, EdgeForm, EdgeRecord, KeepsGraph, VertexHolder, buckets_alone,
+    BucketHolder, EdgeForm, EdgeRecord, IndexHolder, KeepsGraph, VertexHolder, buckets_alone,
     empty_store_represents_empty_graph, parts_look_at_their_own_objects,
     same_contents_represent_the_same, sizes_are_lengths, spellings_differ,
     store_represents_one_graph, words_are_counted,
@@ -210,5 +210,26 @@ fn self_loop(rt: HostRuntime) -> Result<(), Fail> {
     };
     assert_eq!(rt; (vertex.id, vertex.next), (5, 1));
     assert_eq!(rt; vertex.edges.as_slice(), [outward, inward].as_slice());
+    Ok(())
+}
+
+#[test]
+fn index_objects(rt: HostRuntime) -> Result<(), Fail> {
+    let words = words_of(rt.alloc(), &[0, 5, 0, 9, 2, 1])?;
+    let index = IndexHolder::read(rt.alloc(), &words)?.ok_or("an object of the index")?;
+    assert_eq!(rt; index.entries.len(), 3);
+    let again = index.write(rt.alloc())?;
+    assert_eq!(rt; again.as_slice(), words.as_slice());
+    for numbers in [
+        [5].as_slice(),
+        [0, 9, 0, 5].as_slice(),
+        [1, 5, 0, 9].as_slice(),
+        [0, 5, 0, 5].as_slice(),
+        [4_294_967_296, 5].as_slice(),
+    ] {
+        let words = words_of(rt.alloc(), numbers)?;
+        let found = IndexHolder::read(rt.alloc(), &words)?;
+        assert!(rt; found.is_none(), "{numbers:?}");
+    }
     Ok(())
 }

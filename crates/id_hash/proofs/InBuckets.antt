@@ -1,5 +1,5 @@
 -- What a transaction finds in a bucket, and where the buckets lead once one is written.
-use Rattle.std.proofs.Common.{eq-eqb, ◌≡◌, ◌≢◌, ℕ, ◌^◌, ◌<◌, ◌≤◌, Bool, true, false, cond, List, [], length, refl, sym, ap, subst, ◌∙◌, arith, eqb, not, ◌+◌, ◌*◌, ◌∷◌, None, Some, Option, IsSome}
+use Rattle.std.proofs.Common.{eq-eqb, ◌≡◌, ◌≢◌, ℕ, ◌^◌, ◌<◌, ◌≤◌, Bool, true, false, cond, List, length, refl, sym, ap, subst, ◌∙◌, arith, eqb, not, ◌+◌, ◌*◌, None, Some, Option, IsSome}
 use Rattle.std.specs.List.{AllByRecursion}
 use Rattle.std.specs.Option.{MatchOption, option_map}
 use Rattle.object_store.proofs.Working.{stays-then}
@@ -11,9 +11,8 @@ use Rattle.object_words.specs.Contents.{Contents, Agrees, place_cmp, content_of,
 use Rattle.object_words.proofs.Places.{in_order-with_words, place_ties_itself, places_equal}
 use Rattle.std.specs.Ordering.{nat_cmp}
 use Rattle.std.specs.Cmp.{nat_cmp_total}
-use Rattle.std.specs.declared.cmp.Ordering.TheVariants.{Less, Equal, Greater}
 use Rattle.std.specs.FinMap.{nat_cmp-IsAntisymmetric}
-use Rattle.std.specs.FinMap.Entries.{by_order, find, find-put, find-where_key}
+use Rattle.std.specs.FinMap.Entries.{find, find-put, find-where_key}
 use Rattle.std.proofs.lemmas.Bool.Decides.{nat_tests}
 use Rattle.graph_model.specs.Maps.{IsMap, at, with_at, without}
 use Rattle.graph_model.proofs.Sets.{length-filter-le}

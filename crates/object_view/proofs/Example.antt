@@ -1,11 +1,11 @@
 -- The store of the example represents its graph.
-use Rattle.std.proofs.Common.{◌≡◌, ◌≢◌, ◌∙◌, ℕ, ◌<◌, ◌≤◌, Bool, true, false, not, cond, eqb, List, [], ◌∷◌, ◌++◌, ◌&&◌, map, slice_index, length, Option, Some, None, refl, sym, ap, subst, arith, eq-eqb, eqb-true}
+use Rattle.std.proofs.Common.{◌≡◌, ◌≢◌, ◌∙◌, ℕ, ◌≤◌, Bool, true, false, cond, eqb, List, [], ◌∷◌, ◌&&◌, map, slice_index, length, Some, refl, sym, ap, subst, arith, eq-eqb, eqb-true}
 use Rattle.std.specs.List.{AllByRecursion, flat_map}
 use Rattle.std.specs.Option.{unwrap_or}
 use Rattle.std.specs.Ordering.{eq_by_cmp}
 use Rattle.std.proofs.lemmas.Bool.{and_parts, and_from}
 use Rattle.rma_layout.specs.Shape.{default_shape}
-use Rattle.rma_layout.specs.Placement.{Place, same_place, metadata}
+use Rattle.rma_layout.specs.Placement.{Place, same_place}
 use Rattle.object_words.specs.Contents.{Contents, place_cmp, content_of, words_at}
 use Rattle.object_words.proofs.Places.{places_equal, same_places}
 use Rattle.graph_model.specs.Graph.{Vertex}
@@ -14,7 +14,7 @@ use Rattle.graph_model.specs.WellFormed.{IsWellFormed}
 use Rattle.holder_codec.specs.Bucket.{bucket_words}
 use Rattle.holder_codec.specs.Holders.{pair_words}
 use Rattle.holder_codec.specs.Texts.{words_from}
-use Rattle.holder_codec.specs.Represents.{VertexObjects, EdgeObjects, entries_of, pairs_of_label, IsBucket, IsSlot, HasNames, HasBuckets, HasVertices, HasHeavyEdges, HasIndex, RestIsEmpty, Represents}
+use Rattle.holder_codec.specs.Represents.{VertexObjects, EdgeObjects, entries_of, pairs_of_label, IsBucket, IsSlot, HasNames, HasBuckets, HasIndex, RestIsEmpty, Represents}
 use Rattle.object_view.specs.Example.{loops, words_of_loops}
 
 -- ---- what contents have elsewhere, and at most

@@ -1,10 +1,9 @@
 -- What is written grows by as many blocks as the objects of the graph do.
-use Rattle.std.proofs.Common.{◌≡◌, ◌∙◌, ℕ, zero, suc, ◌-◌, ◌<◌, Bool, true, false, cond, List, [], ◌∷◌, length, Option, Some, None, refl, sym, ap, subst, arith}
+use Rattle.std.proofs.Common.{◌≡◌, ◌∙◌, ℕ, zero, suc, ◌-◌, ◌<◌, Bool, true, false, cond, List, [], length, Option, Some, None, refl, sym, ap, arith}
 use Rattle.std.specs.Prelude.{is_some, sum_by, MatchBool}
 use Rattle.std.specs.Option.{unwrap_or}
-use Rattle.std.specs.List.{AllByRecursion}
 use Rattle.std.proofs.lemmas.Bool.Decides.{nat_tests}
-use Rattle.rma_layout.specs.Shape.{Shape, reserved_blocks}
+use Rattle.rma_layout.specs.Shape.{Shape}
 use Rattle.rma_layout.specs.Ranges.{IsInRange}
 use Rattle.rma_layout.specs.Placement.{Place}
 use Rattle.object_words.specs.Contents.{Contents, IsByRisingObject, content_of, overlay, is_empty, words_at}

@@ -1,5 +1,5 @@
 -- A graph of one vertex with a label, a loop, and a heavy edge to itself; and the words of a store that represents it.
-use Rattle.std.specs.Prelude.{ℕ, false, List, [], ◌∷◌}
+use Rattle.std.specs.Prelude.{ℕ, false, [], ◌∷◌}
 use Rattle.rma_layout.specs.Placement.{Place}
 use Rattle.object_words.specs.Contents.{Contents}
 use Rattle.graph_model.specs.Graph.{Graph}
