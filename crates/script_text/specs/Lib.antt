@@ -5,3 +5,5 @@ pub mod Shown
 pub mod Forms
 pub mod Awaited
 pub mod Words
+pub mod Faults
+pub mod Reading
