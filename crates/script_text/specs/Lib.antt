@@ -7,3 +7,4 @@ pub mod Awaited
 pub mod Words
 pub mod Faults
 pub mod Reading
+pub mod Outputs
