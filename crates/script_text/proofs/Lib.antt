@@ -4,3 +4,7 @@ pub mod ValueLemmas
 pub mod CallLemmas
 pub mod TestLemmas
 pub mod WordLemmas
+pub mod LineLemmas
+pub mod StepLemmas
+pub mod ReadingLemmas
+pub mod PartLemmas

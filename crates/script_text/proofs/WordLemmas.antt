@@ -7,7 +7,7 @@ use Rattle.std.proofs.lemmas.Grind.{flat_map-append}
 use Rattle.std.proofs.lemmas.List.Sums.{fails_before_first}
 use Rattle.std.proofs.lemmas.List.Quantifiers.{position-Some}
 use Rattle.script_text.specs.Spelling.{quoted_byte}
-use Rattle.script_text.specs.Words.{HasNoSpace, IsPlain, IsQuoted, IsWord, IsBehind, IsClosed, HasFirst, IsCut}
+use Rattle.script_text.specs.Words.{HasNoSpace, IsPlain, IsQuoted, IsWord, IsBehind, IsClosed, HasFirst, IsOpening, IsCut}
 use Rattle.script_text.proofs.ValueLemmas.{same_text, heads_differ, rest_is_closed}
 
 -- what stands behind a word
@@ -162,20 +162,17 @@ plain_of (b ∷ w) behind none other = (λ quote. other (w ++ behind) (ap (λ (x
 abbrev is_space : ℕ → Bool
 is_space byte = eqb byte 32
 
-pub plain_to_space : (line : List ℕ) (end : ℕ) → ((rest : List ℕ) → line ≢ 34 ∷ rest) → position is_space line ≡ Some end → HasFirst line (take end line) (Some (take (length line - (end + 1)) (drop (end + 1) line)))
-plain_to_space line end other at =
+pub opens_to_space : (line : List ℕ) (end : ℕ) → position is_space line ≡ Some end → IsOpening line (take end line) (Some (take (length line - (end + 1)) (drop (end + 1) line)))
+opens_to_space line end at =
     let told = position-Some is_space line end 0 at in
     let space : get_or line end 0 ≡ 32 = eqb-true _ _ told.1 in
     let lt : end < length line = told.0 in
     let whole : line ≡ take end line ++ 32 ∷ drop (end + 1) line =
     sym (take-append-drop end line) ∙ ap (λ (x : List ℕ). take end line ++ x) (rw (add-one, drop-cons line end 0) (ap (λ (b : ℕ). b ∷ drop (suc end) line) space)) in
-    let none : HasNoSpace (take end line) = no_space_before line end (λ k lt. eqb-false _ _ (told.2 k lt)) (omega arith) in (
-      inl (plain_of (take end line) (32 ∷ drop (end + 1) line) none (λ rest same. other rest (whole ∙ same))),
-      whole ∙ ap (λ (x : List ℕ). take end line ++ 32 ∷ x) (sym (take_rest line (end + 1))),
-    )
+    (no_space_before line end (λ k lt. eqb-false _ _ (told.2 k lt)) (omega arith), whole ∙ ap (λ (x : List ℕ). take end line ++ 32 ∷ x) (sym (take_rest line (end + 1))))
 
-pub plain_to_end : (line : List ℕ) → ((rest : List ℕ) → line ≢ 34 ∷ rest) → position is_space line ≡ None → HasFirst line line None
-plain_to_end line other at =
+pub opens_to_end : (line : List ℕ) → position is_space line ≡ None → IsOpening line line None
+opens_to_end line at =
     let missed : length line ≤ position_or_len is_space line =
     elim (cases_lt (position_or_len is_space line) (length line)) [
       | inl lt ↦ let found : position is_space line ≡ Some (position_or_len is_space line) = cond-true _ _ _ (lt-ltb _ _ lt) in absurd (cc)
@@ -183,8 +180,12 @@ plain_to_end line other at =
     ]
     in
     let none : HasNoSpace (take (length line) line) = no_space_before line (length line) (λ k lt. eqb-false _ _ (fails_before_first is_space line k 0 (omega arith))) (omega arith) in
-    let all : take (length line) line ≡ line = take_all (length line) line (omega arith) in
-    (inl (plain_of line [] (subst HasNoSpace all none) (λ rest same. other rest (sym (append-nil line) ∙ same))), refl)
+    (subst HasNoSpace (take_all (length line) line (omega arith)) none, refl)
+
+-- what opens a line that doesn't begin with a quote is its first word
+pub plain_first : (line w : List ℕ) (o : Option (List ℕ)) → ((rest : List ℕ) → line ≢ 34 ∷ rest) → IsOpening line w o → HasFirst line w o
+plain_first line w None other opening = (inl (plain_of w [] opening.0 (λ rest same. other rest (opening.1 ∙ sym (append-nil w) ∙ same))), opening.1)
+plain_first line w (Some next) other opening = (inl (plain_of w (32 ∷ next) opening.0 (λ rest same. other rest (opening.1 ∙ same))), opening.1)
 
 -- ---- a line that is being cut
 

@@ -1,5 +1,5 @@
 -- What stands behind a call's word, and where a word is wrong there.
-use Rattle.std.specs.Prelude.{◌≡◌, ◌≢◌, ℕ, ◌^◌, ◌<◌, List, [], ◌∷◌, map, codes, ◌⊎◌}
+use Rattle.std.specs.Prelude.{◌≡◌, ◌≢◌, ℕ, ◌^◌, ◌<◌, Bool, true, false, List, [], ◌∷◌, map, codes, ◌⊎◌}
 use Rattle.std.specs.List.{AllByRecursion}
 use Rattle.std.specs.Fmt.{decimal}
 use Rattle.std.specs.Borrow.{Bor}
@@ -13,6 +13,7 @@ use Rattle.script_text.specs.declared.wrong.Wrong.TheVariants as wrong
 use Rattle.script_text.specs.declared.verb.Verb.{Verb}
 use Rattle.script_text.specs.declared.verb.Verb.TheVariants.{NewLabel, NewType, Vertex, Has, Drop, Tag, Untag, Tags, Set, Add, Get, Unset, Props, Edge, UEdge, Cut, Target, ETag, EUntag, ETags, ESet, EAdd, EGet, EUnset, EProps, Edges, Near, Degree, Find, Hood, Levels, Parts, Scan, Vertices, Arcs}
 use Rattle.gdi_kinds.specs.declared.call.Call.{Call}
+use Rattle.gdi_kinds.specs.Calls.{is_whole_call}
 use Rattle.script_text.specs.Spelling.{Part, text_of, IsPart, value_text, IsValue, kind_text, dir_text, op_text, parts_of, test_of, HasAtoms}
 
 -- the words that bytes lie behind
@@ -194,7 +195,18 @@ form_of Scan = then a_scope may_test
 form_of Vertices = ends
 form_of Arcs = ends
 
+-- the words of the whole-graph calls
+abbrev pub is_whole : Verb → Bool
+is_whole Hood = true
+is_whole Levels = true
+is_whole Parts = true
+is_whole Scan = true
+is_whole Vertices = true
+is_whole Arcs = true
+is_whole verb = false
+
 -- a word and the words behind it are the line of the call
 pub record IsCallOf (verb : Verb) (words : List (List ℕ)) (call : Call) : Type 0 where
   pub spelled : AreSpelled (word_of verb ∷ words) (parts_of call)
   pub atoms : HasAtoms (test_of call)
+  pub whole : is_whole_call call ≡ is_whole verb

@@ -5,3 +5,6 @@ pub mod Shown
 pub mod Forms
 pub mod Awaited
 pub mod Words
+pub mod Faults
+pub mod Reading
+pub mod Outputs

@@ -4,6 +4,8 @@ use Rattle.std.specs.List.{filter, flat_map, AllByRecursion}
 use Rattle.gdi_kinds.specs.Calls.{is_whole_call}
 use Rattle.gdi_kinds.specs.declared.call.Call.{Call}
 use Rattle.gdi_kinds.specs.declared.txn.Txn.{Txn}
+use Rattle.script_text.specs.declared.step.Step.{Step}
+use Rattle.script_text.specs.declared.step.Step.TheVariants.{Section, Begin, Does, Close}
 use Rattle.script_text.specs.Spelling.{line_of_call, IsCall, test_of, atoms_in}
 
 -- a byte in front of the first line
@@ -25,26 +27,20 @@ is_skipped (byte ∷ bytes) = byte == 35
 abbrev pub counted : List (List ℕ) → List (List ℕ)
 counted lines = filter (λ line. not (is_skipped line)) lines
 
--- what a line that counts does
-pub data Step : Type 0 where
-  section : Step
-  begin : (whole : Bool) → Step
-  does : Call → Step
-  close : (aborts : Bool) → Step
-
+-- the line of a step
 abbrev pub line_of : Step → List ℕ
-line_of section = codes "section"
-line_of (begin false) = codes "txn"
-line_of (begin true) = codes "all"
-line_of (does call) = line_of_call call
-line_of (close false) = codes "end"
-line_of (close true) = codes "abort"
+line_of Section = codes "section"
+line_of (Begin false) = codes "txn"
+line_of (Begin true) = codes "all"
+line_of (Does call) = line_of_call call
+line_of (Close false) = codes "end"
+line_of (Close true) = codes "abort"
 
 abbrev pub steps_of_txn : Txn → List Step
-steps_of_txn txn = begin txn.whole ∷ map does txn.calls ++ close txn.aborts ∷ []
+steps_of_txn txn = Begin txn.whole ∷ map Does txn.calls ++ Close txn.aborts ∷ []
 
 abbrev pub steps_of_section : List Txn → List Step
-steps_of_section txns = section ∷ flat_map steps_of_txn txns
+steps_of_section txns = Section ∷ flat_map steps_of_txn txns
 
 abbrev pub steps_of_script : List (List Txn) → List Step
 steps_of_script sections = flat_map steps_of_section sections

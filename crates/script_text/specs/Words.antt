@@ -33,6 +33,11 @@ abbrev pub HasFirst : List ℕ → List ℕ → Option (List ℕ) → Type 0
 HasFirst line w None = IsWord w × (line ≡ w)
 HasFirst line w (Some rest) = IsWord w × (line ≡ w ++ 32 ∷ rest)
 
+-- the bytes of a line up to its first space, and what follows that, where it has one
+abbrev pub IsOpening : List ℕ → List ℕ → Option (List ℕ) → Type 0
+IsOpening line w None = HasNoSpace w × (line ≡ w)
+IsOpening line w (Some rest) = HasNoSpace w × (line ≡ w ++ 32 ∷ rest)
+
 -- the words of a line, from the left
 abbrev pub IsCut : List ℕ → List (List ℕ) → Type 0
 IsCut line [] = ⊥
@@ -43,3 +48,8 @@ IsCut line (w ∷ next ∷ words) = (rest : List ℕ) × HasFirst line w (Some r
 abbrev pub IsCutOrNone : Bool → List ℕ → List (List ℕ) → Type 0
 IsCutOrNone true line words = IsCut line words
 IsCutOrNone false line words = (others : List (List ℕ)) → ¬ IsCut line others
+
+-- the words behind the first space, where there is one
+abbrev pub AreBehind : Option (List ℕ) → List (List ℕ) → Type 0
+AreBehind None words = words ≡ []
+AreBehind (Some rest) words = IsCut rest words

@@ -3,7 +3,7 @@ ghost use Rattle.std.specs.List.{flat_map};
 ghost use Rattle.std.specs.Option.{option_copied};
 ghost use Rattle.script_text.specs.Spelling.{quoted_byte};
 ghost use Rattle.script_text.specs.Forms.{texts};
-ghost use Rattle.script_text.specs.Words.{IsCut, IsCutOrNone, HasFirst, IsClosed, IsBehind};
+ghost use Rattle.script_text.specs.Words.{IsCut, IsCutOrNone, HasFirst, IsOpening, IsClosed, IsBehind};
 
 use crate::bytes::position_of;
 use crate::value_reader::{after_byte, first_quoted};
@@ -42,6 +42,13 @@ fn first_word(line: &[u8]) -> Option<(&[u8], Option<&[u8]>)>
 fn plain_word(line: &[u8]) -> (&[u8], Option<&[u8]>)
     requires { (rest : List ℕ) → line.now ≢ 34 ∷ rest }
     ensures { HasFirst line.now result.0.now (option_copied result.1) }
+{
+    opening_of(line)
+}
+
+/// The bytes of a line up to its first space, and what follows that, where it has one.
+pub(crate) fn opening_of(line: &[u8]) -> (&[u8], Option<&[u8]>)
+    ensures { IsOpening line.now result.0.now (option_copied result.1) }
 {
     match position_of(b' ', line) {
         Some(end) => (&line[..end], Some(&line[end + 1..])),

@@ -1,5 +1,5 @@
 ghost use Rattle.std.specs.Prelude.{◌≡◌, ◌≢◌, MatchOption};
-ghost use Rattle.script_text.specs.Forms.{word_of};
+ghost use Rattle.script_text.specs.Forms.{word_of, is_whole};
 ghost use Rattle.script_text.specs.declared.verb.Verb.{Verb as AVerb};
 
 /// The first word of a call's line.
@@ -88,7 +88,9 @@ pub(crate) fn verb_of(word: &[u8]) -> Option<Verb>
 
 impl Verb {
     /// Whether it is the word of a whole-graph call.
-    pub(crate) fn is_whole(self) -> bool {
+    pub(crate) fn is_whole(self) -> bool
+        ensures { result ≡ is_whole self }
+    {
         matches!(
             self,
             Verb::Hood | Verb::Levels | Verb::Parts | Verb::Scan | Verb::Vertices | Verb::Arcs
