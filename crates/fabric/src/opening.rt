@@ -54,20 +54,12 @@ fn set_free_list(words: &mut [u64], geometry: &Geometry, rank: u16)
     }
 }
 
-/// How many blocks of a rank are reserved.
-fn reserved(geometry: &Geometry) -> u64
-    requires { IsInRange geometry.now }
-    ensures { result ≡ 1 + geometry.now.buckets + geometry.now.slots }
-{
-    1 + geometry.buckets() + geometry.slots()
-}
-
 /// The head of each rank: the first block that is not reserved, 0 if there is none.
 fn first_head(geometry: &Geometry) -> u64
     requires { IsInRange geometry.now }
     ensures { result ≡ first_head_word geometry.now }
 {
-    let first = reserved(geometry);
+    let first = geometry.reserved();
     if first < geometry.blocks() { first } else { 0 }
 }
 
@@ -77,7 +69,7 @@ fn next_free(geometry: &Geometry, block: u64) -> u64
     requires block { block < geometry.now.blocks }
     ensures { result ≡ first_next geometry.now block }
 {
-    if reserved(geometry) <= block && block + 1 < geometry.blocks() {
+    if geometry.reserved() <= block && block + 1 < geometry.blocks() {
         block + 1
     } else {
         0

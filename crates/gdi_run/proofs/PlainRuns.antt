@@ -9,7 +9,7 @@ use Rattle.gdi_kinds.specs.declared.reply.Reply.{Reply}
 use Rattle.gdi_kinds.specs.declared.reply.Reply.TheVariants as reply
 use Rattle.gdi_kinds.specs.declared.txn.Txn.{Txn}
 use Rattle.gdi_kinds.specs.declared.outcome.Line.{Line}
-use Rattle.rma_layout.specs.Shape.{Shape, default_shape}
+use Rattle.rma_layout.specs.Shape.{Shape, standard_shape}
 use Rattle.graph_model.specs.Maps.{has}
 use Rattle.graph_model.specs.Graph.{Graph, empty_graph}
 use Rattle.graph_model.specs.Bare.{IsBareCall, bare_graph}
@@ -35,11 +35,11 @@ are_bare [] h = tt
 are_bare (c ∷ cs) h = (is_bare c h.0, are_bare cs h.1)
 
 -- what they answer is one word
-is_word : (ids : List ℕ) (c : Call) → MayHold c → IsOneWord (reply_by_ids default_shape ids c)
+is_word : (ids : List ℕ) (c : Call) → MayHold c → IsOneWord (reply_by_ids standard_shape ids c)
 is_word ids (Vertex id) h =
-    elim (has ids id) as (λ there. IsOneWord (if there then reply.Exists else (if is_bucket_full default_shape (bare_graph ids).vertices id then reply.TooLarge else reply.Done))) [
+    elim (has ids id) as (λ there. IsOneWord (if there then reply.Exists else (if is_bucket_full standard_shape (bare_graph ids).vertices id then reply.TooLarge else reply.Done))) [
       | true ↦ tt
-      | false ↦ elim (is_bucket_full default_shape (bare_graph ids).vertices id) as (λ full. IsOneWord (if full then reply.TooLarge else reply.Done)) [ true ↦ tt | false ↦ tt ]
+      | false ↦ elim (is_bucket_full standard_shape (bare_graph ids).vertices id) as (λ full. IsOneWord (if full then reply.TooLarge else reply.Done)) [ true ↦ tt | false ↦ tt ]
     ]
 is_word ids (Has id) h = elim (has ids id) as (λ there. IsOneWord (if there then reply.Yes else reply.No)) [ true ↦ tt | false ↦ tt ]
 is_word ids c h = absurd h
@@ -58,8 +58,8 @@ vertices_in [] = 0
 vertices_in (p ∷ ps) = vertex_calls p.txn + vertices_in ps
 
 record FitsAndWords (ids : List ℕ) (k : ℕ) (ps : List Placed) : Type 0 where
-  fits : Fits default_shape (bare_graph ids) ps
-  words : AllByRecursion HasWords (serial_lines default_shape (bare_graph ids) k ps)
+  fits : Fits standard_shape (bare_graph ids) ps
+  words : AllByRecursion HasWords (serial_lines standard_shape (bare_graph ids) k ps)
 
 ends_in_words : (a w : Bool) (k section number : ℕ) (rs : List Reply) → AllByRecursion IsOneWord rs → HasWords (record { section = section; txn = number; outcome = ends a w k rs })
 ends_in_words true w k section number rs words = tt
@@ -70,15 +70,15 @@ plain_run : (ids : List ℕ) (k : ℕ) (ps : List Placed) → AllByRecursion (λ
 plain_run ids k [] plain few = record { fits = tt; words = tt }
 plain_run ids k (p ∷ ps) plain few =
     let bare = are_bare p.txn.calls plain.0.calls in
-    let ids' = ids_after_calls default_shape ids p.txn.calls in
-    let after : graph_after_txn default_shape (bare_graph ids) p.txn ≡ bare_graph ids' = rw plain.0.ends (graph_after_calls-bare default_shape ids p.txn.calls bare) in
-    let rest = plain_run ids' (next_entries k p.txn) ps plain.1 (omega (arith, length-after_calls default_shape ids p.txn.calls)) in
-    let stays : is_writing p.txn ≡ false → graph_after_txn default_shape (bare_graph ids) p.txn ≡ bare_graph ids = λ reads. after ∙ ap bare_graph (reading_leaves default_shape ids p.txn.calls bare reads) in
+    let ids' = ids_after_calls standard_shape ids p.txn.calls in
+    let after : graph_after_txn standard_shape (bare_graph ids) p.txn ≡ bare_graph ids' = rw plain.0.ends (graph_after_calls-bare standard_shape ids p.txn.calls bare) in
+    let rest = plain_run ids' (next_entries k p.txn) ps plain.1 (omega (arith, length-after_calls standard_shape ids p.txn.calls)) in
+    let stays : is_writing p.txn ≡ false → graph_after_txn standard_shape (bare_graph ids) p.txn ≡ bare_graph ids = λ reads. after ∙ ap bare_graph (reading_leaves standard_shape ids p.txn.calls bare reads) in
     record {
-      fits = ((full_rank-default ids p.txn bare (omega arith), stays), subst (λ g. Fits default_shape g ps) (sym after) rest.fits);
+      fits = ((full_rank-default ids p.txn bare (omega arith), stays), subst (λ g. Fits standard_shape g ps) (sym after) rest.fits);
       words = (
-        ends_in_words p.txn.aborts (is_writing p.txn) k p.section p.number (replies_to default_shape (bare_graph ids) p.txn) (replies_to_calls-bare default_shape MayHold IsOneWord is_bare is_word ids p.txn.calls plain.0.calls),
-        subst (λ g. AllByRecursion HasWords (serial_lines default_shape g (next_entries k p.txn) ps)) (sym after) rest.words,
+        ends_in_words p.txn.aborts (is_writing p.txn) k p.section p.number (replies_to standard_shape (bare_graph ids) p.txn) (replies_to_calls-bare standard_shape MayHold IsOneWord is_bare is_word ids p.txn.calls plain.0.calls),
+        subst (λ g. AllByRecursion HasWords (serial_lines standard_shape g (next_entries k p.txn) ps)) (sym after) rest.words,
       );
     }
 
@@ -143,13 +143,13 @@ few_writes script writes i plain lt same =
     omega (arith, plain.few_txns, same, least_writes writes (sections_from (i + 1) (drop i script)), most_writes 0 (transactions_of script), length-sections 1 script, get_or-le-sum_by length script i [] lt)
 
 pub plain_is_legal : (script : List (List Txn)) (lines : List Line) (g : Graph) (writes i : ℕ) → IsPlainScript script → length script ≤ i
-    → lines ++ serial_lines default_shape g writes (sections_from (i + 1) (drop i script)) ≡ serial_lines default_shape empty_graph 0 (transactions_of script)
+    → lines ++ serial_lines standard_shape g writes (sections_from (i + 1) (drop i script)) ≡ serial_lines standard_shape empty_graph 0 (transactions_of script)
     → serial_writes writes (sections_from (i + 1) (drop i script)) ≡ serial_writes 0 (transactions_of script)
-    → IsLegalRun default_shape [] script (record { lines = lines; writes = writes }) × AllByRecursion HasWords lines
+    → IsLegalRun standard_shape [] script (record { lines = lines; writes = writes }) × AllByRecursion HasWords lines
 plain_is_legal script lines g writes i plain le same_lines same_writes =
     let none : drop i script ≡ [] = drop_all i script le in
-    let lines_are : lines ≡ serial_lines default_shape empty_graph 0 (transactions_of script)
-    = sym (append-nil lines) ∙ ap (λ (rest : List (List Txn)). lines ++ serial_lines default_shape g writes (sections_from (i + 1) rest)) (sym none) ∙ same_lines in
+    let lines_are : lines ≡ serial_lines standard_shape empty_graph 0 (transactions_of script)
+    = sym (append-nil lines) ∙ ap (λ (rest : List (List Txn)). lines ++ serial_lines standard_shape g writes (sections_from (i + 1) rest)) (sym none) ∙ same_lines in
     let writes_are : writes ≡ serial_writes 0 (transactions_of script) = ap (λ (rest : List (List Txn)). serial_writes writes (sections_from (i + 1) rest)) (sym none) ∙ same_writes in
     let run = whole_run script plain in
-    rw (lines_are, writes_are) (serial_is_legal default_shape script run.fits, run.words)
+    rw (lines_are, writes_are) (serial_is_legal standard_shape script run.fits, run.words)

@@ -2,7 +2,7 @@
 use Rattle.std.specs.Prelude.{◌≡◌, List, [], ℕ}
 use Rattle.gdi_kinds.specs.declared.txn.Txn.{Txn}
 use Rattle.gdi_kinds.specs.declared.outcome.Printed.{Printed}
-use Rattle.rma_layout.specs.Shape.{default_shape}
+use Rattle.rma_layout.specs.Shape.{standard_shape}
 use Rattle.graph_model.specs.LegalRun.{IsLegalRun}
 use Rattle.gdi_run.specs.ScriptText.{Spells}
 use Rattle.gdi_run.specs.OutputText.{output_text}
@@ -12,5 +12,5 @@ pub record PrintsLegalRun (text output : List ℕ) : Type 0 where
   pub script : List (List Txn)
   pub run : Printed
   pub spelled : Spells text script
-  pub legal : IsLegalRun default_shape [] script run
+  pub legal : IsLegalRun standard_shape [] script run
   pub printed : output ≡ output_text run

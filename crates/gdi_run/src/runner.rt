@@ -1,7 +1,7 @@
 ghost use Rattle.std.specs.Prelude.{◌≡◌, ◌+◌, ◌<◌, ◌^◌, [], length, IfOk, OnOk};
 ghost use Rattle.std.specs.List.{AllByRecursion};
 ghost use Rattle.gdi_kinds.specs.Calls.{is_writing};
-ghost use Rattle.rma_layout.specs.Shape.{default_shape};
+ghost use Rattle.rma_layout.specs.Shape.{standard_shape};
 ghost use Rattle.graph_model.specs.Bare.{IsBareCall};
 ghost use Rattle.graph_model.specs.LegalRun.{IsLegalRun};
 ghost use Rattle.gdi_run.specs.ScriptText.{IsPlainScript};
@@ -16,7 +16,7 @@ use std::alloc::Global;
 /// Runs the transactions of a script one after the other in the standard geometry, and says how each ended.
 pub(crate) fn run_script(alloc: Global, script: &Script) -> Result<Printed, NoMemory>
     requires { IsPlainScript script.now }
-    ensures legal { IfOk result (λ run. IsLegalRun default_shape [] script.now run) }
+    ensures legal { IfOk result (λ run. IsLegalRun standard_shape [] script.now run) }
     ensures words { IfOk result (λ run. AllByRecursion HasWords run.lines) }
 {
     let mut run = SerialRun {

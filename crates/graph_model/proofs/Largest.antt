@@ -11,7 +11,7 @@ use Rattle.gdi_kinds.specs.declared.call.Call.{Call}
 use Rattle.gdi_kinds.specs.declared.call.Call.TheVariants.{Edge, Tag}
 use Rattle.gdi_kinds.specs.declared.reply.Reply.{Reply}
 use Rattle.gdi_kinds.specs.declared.reply.Reply.TheVariants as reply
-use Rattle.rma_layout.specs.Shape.{default_shape}
+use Rattle.rma_layout.specs.Shape.{standard_shape}
 use Rattle.graph_model.specs.Graph.{Graph, edge_cmp, new_vertex}
 use Rattle.graph_model.specs.Sizes.{most_words, is_too_large}
 use Rattle.graph_model.specs.Steps.{Answer}
@@ -53,9 +53,9 @@ next_ray a (suc n) last sum =
 
 -- ---- what the star answers
 
-replies_then : (g h : Graph) (c : Call) (cs : List Call) (r : Reply) (rs : List Reply) → answer_to default_shape g c ≡ (record { graph = h; reply = r }) → replies_to_calls default_shape h cs ≡ rs
-    → replies_to_calls default_shape g (c ∷ cs) ≡ r ∷ rs
-replies_then g h c cs r rs answered later = ap (λ (a : Answer). a.reply ∷ replies_to_calls default_shape a.graph cs) answered ∙ ap (λ others. r ∷ others) later
+replies_then : (g h : Graph) (c : Call) (cs : List Call) (r : Reply) (rs : List Reply) → answer_to standard_shape g c ≡ (record { graph = h; reply = r }) → replies_to_calls standard_shape h cs ≡ rs
+    → replies_to_calls standard_shape g (c ∷ cs) ≡ r ∷ rs
+replies_then g h c cs r rs answered later = ap (λ (a : Answer). a.reply ∷ replies_to_calls standard_shape a.graph cs) answered ∙ ap (λ others. r ∷ others) later
 
 large : (n : ℕ) → most_words < n → is_too_large n ≡ true
 large n more = lt-ltb most_words n more
@@ -97,20 +97,20 @@ edge_answer labels n refused =
     if refused then record { graph = star labels n; reply = reply.TooLarge } else record { graph = with_next labels n; reply = reply.EdgeIs 1 n }
 
 edge_answered : (labels : List ℕ) (n : ℕ) (b : Bool) → (n == ordinals_end || is_vertex_too_large (with_next labels n) 1 || is_vertex_too_large (with_next labels n) 2) ≡ b
-    → answer_to default_shape (star labels n) (Edge 1 2 None) ≡ edge_answer labels n b
+    → answer_to standard_shape (star labels n) (Edge 1 2 None) ≡ edge_answer labels n b
 unfolding star
 edge_answered labels n true is = rw is refl
 edge_answered labels n false is = rw is refl
 
 -- one more edge, where it fits, and where it doesn't
-edge_is_made : (labels : List ℕ) (n : ℕ) → 5 + length labels + 5 * suc n ≤ most_words → answer_to default_shape (star labels n) (Edge 1 2 None) ≡ (record { graph = star labels (suc n); reply = reply.EdgeIs 1 n })
+edge_is_made : (labels : List ℕ) (n : ℕ) → 5 + length labels + 5 * suc n ≤ most_words → answer_to standard_shape (star labels n) (Edge 1 2 None) ≡ (record { graph = star labels (suc n); reply = reply.EdgeIs 1 n })
 edge_is_made labels n few =
     let here : is_vertex_too_large (with_next labels n) 1 ≡ false = ap (λ g. is_vertex_too_large g 1) (with_next-star labels n) ∙ one_large labels (suc n) false (fits _ few) in
     let there : is_vertex_too_large (with_next labels n) 2 ≡ false = ap (λ g. is_vertex_too_large g 2) (with_next-star labels n) ∙ two_fits labels (suc n) (omega arith) in
     edge_answered labels n false (or_from (n == ordinals_end || is_vertex_too_large (with_next labels n) 1) _ (or_from (n == ordinals_end) _ (ne_eqb n ordinals_end (λ same. omega arith)) here) there)
     ∙ ap (λ g. record { graph = g; reply = reply.EdgeIs 1 n }) (with_next-star labels n)
 
-edge_is_refused : (labels : List ℕ) (n : ℕ) → most_words < 5 + length labels + 5 * suc n → answer_to default_shape (star labels n) (Edge 1 2 None) ≡ (record { graph = star labels n; reply = reply.TooLarge })
+edge_is_refused : (labels : List ℕ) (n : ℕ) → most_words < 5 + length labels + 5 * suc n → answer_to standard_shape (star labels n) (Edge 1 2 None) ≡ (record { graph = star labels n; reply = reply.TooLarge })
 edge_is_refused labels n more =
     let here : is_vertex_too_large (with_next labels n) 1 ≡ true = ap (λ g. is_vertex_too_large g 1) (with_next-star labels n) ∙ one_large labels (suc n) true (large _ more) in
     edge_answered labels n true (or_left _ _ (or_right (n == ordinals_end) _ here))
@@ -120,18 +120,18 @@ abbrev tag_answer : ℕ → List ℕ → List ℕ → Bool → Answer
 tag_answer n labels tagged refused =
     if refused then record { graph = star labels n; reply = reply.TooLarge } else record { graph = star tagged n; reply = reply.Done }
 
-tag_a : (n : ℕ) (b : Bool) → is_vertex_too_large (star (0 ∷ []) n) 1 ≡ b → answer_to default_shape (star [] n) (Tag 1 (codes "A")) ≡ tag_answer n [] (0 ∷ []) b
+tag_a : (n : ℕ) (b : Bool) → is_vertex_too_large (star (0 ∷ []) n) 1 ≡ b → answer_to standard_shape (star [] n) (Tag 1 (codes "A")) ≡ tag_answer n [] (0 ∷ []) b
 unfolding star
 tag_a n true is = rw is refl
 tag_a n false is = rw is refl
 
-tag_b : (n : ℕ) (b : Bool) → is_vertex_too_large (star (0 ∷ 1 ∷ []) n) 1 ≡ b → answer_to default_shape (star (0 ∷ []) n) (Tag 1 (codes "B")) ≡ tag_answer n (0 ∷ []) (0 ∷ 1 ∷ []) b
+tag_b : (n : ℕ) (b : Bool) → is_vertex_too_large (star (0 ∷ 1 ∷ []) n) 1 ≡ b → answer_to standard_shape (star (0 ∷ []) n) (Tag 1 (codes "B")) ≡ tag_answer n (0 ∷ []) (0 ∷ 1 ∷ []) b
 unfolding star
 tag_b n true is = rw is refl
 tag_b n false is = rw is refl
 
 module _ (n : ℕ) (most : 5 + 5 * n + 1 ≡ most_words) where
-  pub star_full : replies_to_calls default_shape (star [] n) (Edge 1 2 None ∷ Tag 1 (codes "A") ∷ Tag 1 (codes "B") ∷ Edge 1 2 None ∷ []) ≡ reply.TooLarge ∷ reply.Done ∷ reply.TooLarge ∷ reply.TooLarge ∷ []
+  pub star_full : replies_to_calls standard_shape (star [] n) (Edge 1 2 None ∷ Tag 1 (codes "A") ∷ Tag 1 (codes "B") ∷ Edge 1 2 None ∷ []) ≡ reply.TooLarge ∷ reply.Done ∷ reply.TooLarge ∷ reply.TooLarge ∷ []
   star_full =
       let edge : Call = Edge 1 2 None in
       let a : Call = Tag 1 (codes "A") in
@@ -143,7 +143,7 @@ module _ (n : ℕ) (most : 5 + 5 * n + 1 ≡ most_words) where
       replies_then (star [] n) (star [] n) edge (a ∷ b ∷ edge ∷ []) reply.TooLarge (reply.Done ∷ reply.TooLarge ∷ reply.TooLarge ∷ []) (edge_is_refused [] n (omega arith)) first
 
 pub star_grows : (n : ℕ) → 5 + 5 * suc n ≤ most_words
-    → (graph_after_calls default_shape (star [] n) (Edge 1 2 None ∷ []) ≡ star [] (suc n)) × (replies_to_calls default_shape (star [] n) (Edge 1 2 None ∷ []) ≡ reply.EdgeIs 1 n ∷ [])
+    → (graph_after_calls standard_shape (star [] n) (Edge 1 2 None ∷ []) ≡ star [] (suc n)) × (replies_to_calls standard_shape (star [] n) (Edge 1 2 None ∷ []) ≡ reply.EdgeIs 1 n ∷ [])
 star_grows n few =
     let made = edge_is_made [] n few in
     (ap (λ (a : Answer). a.graph) made, ap (λ (a : Answer). a.reply ∷ []) made)

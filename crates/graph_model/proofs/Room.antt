@@ -11,7 +11,7 @@ use Rattle.std.proofs.lemmas.List.FromFn.{length-range_with_len}
 use Rattle.gdi_kinds.specs.declared.call.Call.{Call}
 use Rattle.gdi_kinds.specs.declared.call.Call.TheVariants as call
 use Rattle.gdi_kinds.specs.declared.txn.Txn.{Txn}
-use Rattle.rma_layout.specs.Shape.{Shape, default_shape, reserved_blocks}
+use Rattle.rma_layout.specs.Shape.{Shape, standard_shape, reserved_blocks}
 use Rattle.rma_layout.specs.Placement.{Place, home_of}
 use Rattle.graph_model.specs.Maps.{keys}
 use Rattle.graph_model.specs.Graph.{Graph, Vertex, new_vertex, vertex_at}
@@ -177,9 +177,9 @@ module _ (shape : Shape) (many most : ℕ) (room : HasRoomFor shape many most) w
         | false ↦ rw (at_make, at_commit)
       ]
 
-default_room : HasRoomFor default_shape 500 67
+default_room : HasRoomFor standard_shape 500 67
 default_room = record { reserved = λ words few. omega arith; light = λ words few. omega arith; enough = omega arith }
 
 -- with at most 500 vertices, those that the calls may make included, no rank of the default shape is full
-pub full_rank-default : (ids : List ℕ) (txn : Txn) → AllByRecursion IsBareCall txn.calls → length ids + count_by is_vertex_call txn.calls ≤ 500 → full_rank default_shape (bare_graph ids) txn ≡ None
-full_rank-default ids txn bare few = full_rank-bare default_shape 500 67 default_room ids txn bare few
+pub full_rank-default : (ids : List ℕ) (txn : Txn) → AllByRecursion IsBareCall txn.calls → length ids + count_by is_vertex_call txn.calls ≤ 500 → full_rank standard_shape (bare_graph ids) txn ≡ None
+full_rank-default ids txn bare few = full_rank-bare standard_shape 500 67 default_room ids txn bare few

@@ -13,7 +13,7 @@ use Rattle.gdi_kinds.specs.declared.value.Kind.TheVariants as kind
 use Rattle.gdi_kinds.specs.declared.value.Value.{Value}
 use Rattle.gdi_kinds.specs.declared.value.Value.TheVariants as value
 use Rattle.gdi_kinds.specs.declared.txn.Txn.{Txn}
-use Rattle.rma_layout.specs.Shape.{Shape, default_shape}
+use Rattle.rma_layout.specs.Shape.{Shape, standard_shape}
 use Rattle.rma_layout.specs.Placement.{bucket_of}
 use Rattle.graph_model.specs.Graph.{Graph, Edge as GraphEdge, EdgeKey, empty_graph, new_vertex}
 use Rattle.graph_model.specs.Sizes.{words_of_vertex, words_of_bucket, words_of_names, words_of_bytes}
@@ -22,11 +22,11 @@ use Rattle.graph_model.specs.Capacity.{makes, full_rank}
 
 -- the graph after these calls alone
 abbrev pub made_by : List Call → Graph
-made_by calls = graph_after_calls default_shape empty_graph calls
+made_by calls = graph_after_calls standard_shape empty_graph calls
 
 -- what these calls are answered on a graph, and on the empty one
 abbrev pub IsAnswered : Graph → List Call → List Reply → Type 0
-IsAnswered g calls replies = replies_to_calls default_shape g calls ≡ replies
+IsAnswered g calls replies = replies_to_calls standard_shape g calls ≡ replies
 
 abbrev pub GivesReplies : List Call → List Reply → Type 0
 GivesReplies calls replies = IsAnswered empty_graph calls replies
@@ -64,12 +64,12 @@ abbrev pub SecondVertexExists : Type 0
 SecondVertexExists = GivesReplies (Vertex 7 ∷ Vertex 7 ∷ []) (reply.Done ∷ reply.Exists ∷ [])
 
 abbrev pub AbortLeavesNothing : Type 0
-AbortLeavesNothing = graph_after_txn default_shape empty_graph (aborted (Vertex 7 ∷ [])) ≡ empty_graph
+AbortLeavesNothing = graph_after_txn standard_shape empty_graph (aborted (Vertex 7 ∷ [])) ≡ empty_graph
 
 -- a vertex that is made again is a second object, on the same rank
 abbrev pub VertexMadeAgain : Type 0
 VertexMadeAgain = GivesReplies (Vertex 7 ∷ DropVertex 7 ∷ Vertex 7 ∷ []) (reply.Done ∷ reply.Done ∷ reply.Done ∷ [])
-    × (makes default_shape empty_graph (Vertex 7 ∷ DropVertex 7 ∷ Vertex 7 ∷ []) ≡ 3 ∷ 3 ∷ [])
+    × (makes standard_shape empty_graph (Vertex 7 ∷ DropVertex 7 ∷ Vertex 7 ∷ []) ≡ 3 ∷ 3 ∷ [])
 
 -- three vertices take the three blocks that aren't reserved; one that goes gives its block back
 abbrev pub FourthVertexIsFull : Type 0
@@ -135,7 +135,7 @@ LevelsInACircle = IsAnswered (made_by (Vertex 1 ∷ Vertex 2 ∷ Vertex 3 ∷ Ed
 abbrev pub SizesOfASelfLoop : Type 0
 SizesOfASelfLoop =
     let looped = made_by (Vertex 5 ∷ Edge 5 5 None ∷ []) in
-    (words_of_vertex looped 5 (record new_vertex { next = 1 }) ≡ 15) × (words_of_bucket default_shape looped (bucket_of default_shape 5) ≡ 2)
+    (words_of_vertex looped 5 (record new_vertex { next = 1 }) ≡ 15) × (words_of_bucket standard_shape looped (bucket_of standard_shape 5) ≡ 2)
 
 abbrev pub SizeOfOneName : Type 0
 SizeOfOneName = (words_of_names (made_by (NewLabel (codes "Person") ∷ [])) ≡ 4) × (words_of_names empty_graph ≡ 0) × (words_of_bytes 9 ≡ 2)
@@ -159,7 +159,7 @@ star labels n = record {
 -- a vertex of 209,714 edges may have one label, and neither a second one nor a further edge
 abbrev pub LargestVertex : Type 0
 LargestVertex =
-    (graph_after_calls default_shape (star [] 209713) (Edge 1 2 None ∷ []) ≡ star [] 209714)
+    (graph_after_calls standard_shape (star [] 209713) (Edge 1 2 None ∷ []) ≡ star [] 209714)
     × IsAnswered (star [] 209713) (Edge 1 2 None ∷ []) (reply.EdgeIs 1 209713 ∷ [])
     × IsAnswered (star [] 209714) (Edge 1 2 None ∷ Tag 1 (codes "A") ∷ Tag 1 (codes "B") ∷ Edge 1 2 None ∷ [])
     (reply.TooLarge ∷ reply.Done ∷ reply.TooLarge ∷ reply.TooLarge ∷ [])
@@ -216,7 +216,7 @@ ValuesOfAnEdgeAreKept =
     let calls = NewType (codes "n") kind.Int true ∷ Vertex 1 ∷ UEdge 1 1 None ∷ EAdd 1 0 (codes "n") (int 5) ∷ [] in
     GivesReplies (calls ++ EAdd 1 0 (codes "n") (int 3) ∷ EGet 1 0 (codes "n") ∷ EAdd 1 1 (codes "n") (int 3) ∷ [])
     (reply.Done ∷ reply.Done ∷ reply.EdgeIs 1 0 ∷ reply.Done ∷ reply.Done ∷ reply.Values (int 5 ∷ int 3 ∷ []) ∷ reply.NoEdge ∷ [])
-    × (makes default_shape empty_graph (calls ++ EAdd 1 0 (codes "n") (int 3) ∷ []) ≡ 1 ∷ 1 ∷ [])
+    × (makes standard_shape empty_graph (calls ++ EAdd 1 0 (codes "n") (int 3) ∷ []) ≡ 1 ∷ 1 ∷ [])
 
 -- a type without the mark takes no second value; a value of another kind is told first
 abbrev pub SecondValueIsRefused : Type 0

@@ -9,7 +9,7 @@ use Rattle.gdi_kinds.specs.declared.reply.Reply.TheVariants as reply
 use Rattle.gdi_kinds.specs.declared.txn.Txn.{Txn}
 use Rattle.gdi_kinds.specs.declared.value.Kind.TheVariants as kind
 use Rattle.gdi_kinds.specs.declared.value.Value.TheVariants as value
-use Rattle.rma_layout.specs.Shape.{default_shape}
+use Rattle.rma_layout.specs.Shape.{standard_shape}
 use Rattle.graph_model.specs.Placed.{transactions_of}
 use Rattle.graph_model.specs.History.{load_entries}
 use Rattle.graph_model.specs.LegalRun.{FitsScript, IsNumbered, KeepsSessionOrder, HasReplies, graph_of_run, IsLegalRun}
@@ -32,14 +32,14 @@ abbrev pub printed : List Line → ℕ → Printed
 printed lines writes = record { lines = lines; writes = writes }
 
 abbrev pub EmptyScriptIsLegal : Type 0
-EmptyScriptIsLegal = IsLegalRun default_shape [] [] (printed [] 0)
+EmptyScriptIsLegal = IsLegalRun standard_shape [] [] (printed [] 0)
 
 abbrev pub ReadingOfTheEmptyGraphIsLegal : Type 0
-ReadingOfTheEmptyGraphIsLegal = IsLegalRun default_shape [] ((committed (Has 7 ∷ []) ∷ committed [] ∷ []) ∷ [])
+ReadingOfTheEmptyGraphIsLegal = IsLegalRun standard_shape [] ((committed (Has 7 ∷ []) ∷ committed [] ∷ []) ∷ [])
     (printed (looked 1 1 0 (reply.No ∷ []) ∷ looked 1 2 0 [] ∷ []) 0)
 
 abbrev pub AbortIsNoEntry : Type 0
-AbortIsNoEntry = IsLegalRun default_shape [] ((aborted (Vertex 7 ∷ []) ∷ committed (Has 7 ∷ []) ∷ []) ∷ [])
+AbortIsNoEntry = IsLegalRun standard_shape [] ((aborted (Vertex 7 ∷ []) ∷ committed (Has 7 ∷ []) ∷ []) ∷ [])
     (printed (left 1 1 ∷ looked 1 2 0 (reply.No ∷ []) ∷ []) 0)
 
 -- the fourth vertex is full on rank 0, and there is room for it once another is dropped
@@ -65,10 +65,10 @@ counter_run first first_read second second_read =
     printed (wrote 1 1 first (reply.Value (value.Int (pos first_read)) ∷ reply.Done ∷ []) ∷ wrote 2 1 second (reply.Value (value.Int (pos second_read)) ∷ reply.Done ∷ []) ∷ []) 3
 
 abbrev pub FirstSectionFirstIsLegal : Type 0
-FirstSectionFirstIsLegal = IsLegalRun default_shape counter_load counter_script (counter_run 1 0 2 5)
+FirstSectionFirstIsLegal = IsLegalRun standard_shape counter_load counter_script (counter_run 1 0 2 5)
 
 abbrev pub SecondSectionFirstIsLegal : Type 0
-SecondSectionFirstIsLegal = IsLegalRun default_shape counter_load counter_script (counter_run 2 9 1 0)
+SecondSectionFirstIsLegal = IsLegalRun standard_shape counter_load counter_script (counter_run 2 9 1 0)
 
 -- both read 0: the second isn't answered so on the graph that the first left
 abbrev pub LostUpdateIsIllegal : Type 0
@@ -78,8 +78,8 @@ LostUpdateIsIllegal =
     FitsScript (transactions_of counter_script) run.lines
     × IsNumbered (length (load_entries counter_load)) run
     × KeepsSessionOrder run.lines
-    × (HasReplies default_shape (graph_of_run default_shape counter_load counter_script run) second (Wrote 2 (reply.Value (value.Int (pos 0)) ∷ reply.Done ∷ [])) → ⊥)
-    × (IsLegalRun default_shape counter_load counter_script run → ⊥)
+    × (HasReplies standard_shape (graph_of_run standard_shape counter_load counter_script run) second (Wrote 2 (reply.Value (value.Int (pos 0)) ∷ reply.Done ∷ [])) → ⊥)
+    × (IsLegalRun standard_shape counter_load counter_script run → ⊥)
 
 -- a section that makes a vertex and then looks for it
 abbrev pub writer_then_reader : List (List Txn)
@@ -89,7 +89,7 @@ abbrev pub reader_run : ℕ → Reply → Printed
 reader_run place answer = printed (wrote 1 1 0 (reply.Done ∷ []) ∷ looked 1 2 place (answer ∷ []) ∷ []) 1
 
 abbrev pub ReaderSeesItsOwnSection : Type 0
-ReaderSeesItsOwnSection = IsLegalRun default_shape [] writer_then_reader (reader_run 1 reply.Yes)
+ReaderSeesItsOwnSection = IsLegalRun standard_shape [] writer_then_reader (reader_run 1 reply.Yes)
 
 -- the replies fit the place, and the place stands before what the section wrote
 abbrev pub ReaderBeforeItsOwnSectionIsIllegal : Type 0
@@ -97,7 +97,7 @@ ReaderBeforeItsOwnSectionIsIllegal =
     let run = reader_run 0 reply.No in
     FitsScript (transactions_of writer_then_reader) run.lines
     × IsNumbered 0 run
-    × HasReplies default_shape (graph_of_run default_shape [] writer_then_reader run) (committed (Has 7 ∷ [])) (Read 0 (reply.No ∷ []))
+    × HasReplies standard_shape (graph_of_run standard_shape [] writer_then_reader run) (committed (Has 7 ∷ [])) (Read 0 (reply.No ∷ []))
     × (KeepsSessionOrder run.lines → ⊥)
 
 -- a reader in another section stands before the writer or after it, where both answer it alike
@@ -108,7 +108,7 @@ abbrev pub other_reader_run : ℕ → Printed
 other_reader_run place = printed (wrote 1 1 0 (reply.Done ∷ []) ∷ looked 2 1 place (reply.No ∷ []) ∷ []) 1
 
 abbrev pub OtherReaderStandsBefore : Type 0
-OtherReaderStandsBefore = IsLegalRun default_shape [] writer_and_other_reader (other_reader_run 0)
+OtherReaderStandsBefore = IsLegalRun standard_shape [] writer_and_other_reader (other_reader_run 0)
 
 abbrev pub OtherReaderStandsAfter : Type 0
-OtherReaderStandsAfter = MovesReadingPlaces default_shape [] writer_and_other_reader (other_reader_run 0) (other_reader_run 1)
+OtherReaderStandsAfter = MovesReadingPlaces standard_shape [] writer_and_other_reader (other_reader_run 0) (other_reader_run 1)

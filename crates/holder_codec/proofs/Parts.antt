@@ -8,7 +8,7 @@ use Rattle.graph_model.specs.Maps.{Map}
 use Rattle.graph_model.specs.Graph.{Name, PropType, Graph, Vertex, Edge, EdgeKey}
 use Rattle.graph_model.specs.Sizes.{most_words}
 use Rattle.graph_model.proofs.Entries.{All-map}
-use Rattle.holder_codec.specs.Represents.{VertexObjects, EdgeObjects, IsUnreserved, IsBucket, IsSlot, object_of, edge_object_of, heavy_edges, HasNames, HasBuckets, BucketsLead, HasVertices, HasHeavyEdges, HasIndex, RestIsEmpty, places_of, IsRepresented, Represents}
+use Rattle.holder_codec.specs.Represents.{VertexObjects, EdgeObjects, IsUnreserved, IsBucket, IsSlot, object_of, edge_object_of, heavy_edges, HasNames, HasBuckets, BucketsLead, HasVertices, HasHeavyEdges, HasIndex, RestIsEmpty, places_in, IsRepresented, Represents}
 use Rattle.holder_codec.specs.Parts.{IsSameAt, IsSameWhere, IsElsewhere, HasAllButBuckets}
 
 -- what holds of each of a list by two facts of it
@@ -74,7 +74,7 @@ all_but_buckets shape one other g vertices edges same is = record {
   held_edges = edges_kept shape one other g.types g.edges edges
       (All-map _ _ (λ entry held. same (edge_object_of edges entry.0) (free_is_no_bucket shape _ _ held.place)) (heavy_edges g.edges) is.held_edges) is.held_edges;
   index = index_kept shape one other (length g.labels) g.vertices (λ place slot. same place (slot_is_no_bucket shape place slot)) is.index;
-  rest = rest_kept shape one other (places_of vertices ++ places_of edges) (λ place elsewhere. same place elsewhere.not_bucket) is.rest;
+  rest = rest_kept shape one other (places_in vertices ++ places_in edges) (λ place elsewhere. same place elsewhere.not_bucket) is.rest;
 }
 
 pub same_represented : (shape : Shape) (one other : Contents) (g : Graph) (vertices : VertexObjects) (edges : EdgeObjects)
@@ -88,7 +88,7 @@ same_represented shape one other g vertices edges same is = record {
   held_edges = edges_kept shape one other g.types g.edges edges (each _ (λ entry. same (edge_object_of edges entry.0)) (heavy_edges g.edges)) is.held_edges;
   index = index_kept shape one other (length g.labels) g.vertices (λ place _. same place) is.index;
   apart = is.apart;
-  rest = rest_kept shape one other (places_of vertices ++ places_of edges) (λ place _. same place) is.rest;
+  rest = rest_kept shape one other (places_in vertices ++ places_in edges) (λ place _. same place) is.rest;
   within = λ place. fits_too one other place (same place) (is.within place);
 }
 

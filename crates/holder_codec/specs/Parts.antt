@@ -5,7 +5,7 @@ use Rattle.rma_layout.specs.Shape.{Shape}
 use Rattle.rma_layout.specs.Placement.{Place, metadata}
 use Rattle.object_words.specs.Contents.{Contents, content_of}
 use Rattle.graph_model.specs.Graph.{Graph}
-use Rattle.holder_codec.specs.Represents.{VertexObjects, EdgeObjects, IsBucket, IsSlot, HasNames, HasVertices, HasHeavyEdges, HasIndex, RestIsEmpty, places_of}
+use Rattle.holder_codec.specs.Represents.{VertexObjects, EdgeObjects, IsBucket, IsSlot, HasNames, HasVertices, HasHeavyEdges, HasIndex, RestIsEmpty, places_in}
 
 -- both have the same words at this object
 abbrev pub IsSameAt : Contents → Contents → Place → Type 0
@@ -28,4 +28,4 @@ pub record HasAllButBuckets (shape : Shape) (store : Contents) (g : Graph) (vert
   pub held_vertices : HasVertices shape store g vertices edges
   pub held_edges : HasHeavyEdges shape store g.types g.edges edges
   pub index : HasIndex shape store (length g.labels) g.vertices
-  pub rest : RestIsEmpty shape store (places_of vertices ++ places_of edges)
+  pub rest : RestIsEmpty shape store (places_in vertices ++ places_in edges)

@@ -130,8 +130,8 @@ abbrev pub AreApart : List Place → Type 0
 AreApart [] = Unit {0}
 AreApart (place ∷ places) = AllByRecursion (λ other. other ≢ place) places × AreApart places
 
-abbrev pub places_of : {K : Type 0} → Map K Place → List Place
-places_of objects = map (λ entry. entry.1) objects
+abbrev pub places_in : {K : Type 0} → Map K Place → List Place
+places_in objects = map (λ entry. entry.1) objects
 
 -- every other object is empty
 abbrev pub RestIsEmpty : Shape → Contents → List Place → Type 0
@@ -146,8 +146,8 @@ pub record IsRepresented (shape : Shape) (store : Contents) (g : Graph) (vertice
   pub held_vertices : HasVertices shape store g vertices edges
   pub held_edges : HasHeavyEdges shape store g.types g.edges edges
   pub index : HasIndex shape store (length g.labels) g.vertices
-  pub apart : AreApart (places_of vertices ++ places_of edges)
-  pub rest : RestIsEmpty shape store (places_of vertices ++ places_of edges)
+  pub apart : AreApart (places_in vertices ++ places_in edges)
+  pub rest : RestIsEmpty shape store (places_in vertices ++ places_in edges)
   -- no object has more words than an object may have
   pub within : (place : Place) → length (content_of store place) ≤ most_words
 

@@ -12,6 +12,7 @@ ghost use Rattle.holder_codec.specs.declared.bucket_entry.BucketEntry.{BucketEnt
 ghost use Rattle.holder_codec.specs.Bucket.{IsBucketHolder, bucket_words, is_entry_before};
 ghost use Rattle.holder_codec.specs.Order.{is_rising};
 ghost use Rattle.id_hash.specs.Entries.{entry_for, with_entry, without_entry};
+ghost use Rattle.rma_layout.specs.declared.limits.TheConstants.{MOST_WORDS};
 
 use gdi_kinds::NoMemory;
 use held_objects::{look, put};
@@ -49,7 +50,7 @@ pub(crate) fn write_bucket<L: KeepsGraph, S: Store<L>>(
 ) -> Result<(), S::Refused>
     requires begun { (S.state store.old).phase ≡ Writing }
     requires is { IfOk made IsBucketHolder }
-    requires few { IfOk made (λ bucket. length (bucket_words bucket) ≤ 1048576) }
+    requires few { IfOk made (λ bucket. length (bucket_words bucket) ≤ MOST_WORDS) }
     ensures works { Works L.fits S.state S.explains S.says (IsBucketFor id) Nowhere store.old store.new result }
     ensures wrote { OnOk result (IsOkAnd made (λ bucket. WritesObject (bucket_of (S.state store.old).shape id) (bucket_words bucket) (S.state store.old) (S.state store.new))) }
 {

@@ -13,12 +13,12 @@ pub struct Account<N> {
 }
 
 impl<N> Model for Account<N> {
-    ghost use Rattle.rma_layout.specs.Shape.{default_shape};
+    ghost use Rattle.rma_layout.specs.Shape.{standard_shape};
     ghost use Rattle.object_store.specs.Ledger.{Account, opened};
 
     ghost Value = { Account N };
 
-    ghost view = { λ _. opened default_shape };
+    ghost view = { λ _. opened standard_shape };
 }
 
 /// The rule of the one word of a plain store: it counts the history.

@@ -1,5 +1,6 @@
 ghost use Rattle.std.specs.Prelude.{◌≡◌, ◌≢◌, ℕ, ◌<◌, ◌≤◌, false, true, length, IfOk, IfErr};
 ghost use Rattle.gdi_kinds.specs.declared.no_memory.NoMemory.{NoMemory};
+ghost use Rattle.rma_layout.specs.declared.limits.TheConstants.{MOST_WORDS};
 ghost use Rattle.rma_layout.specs.Placement.{IsBlock};
 ghost use Rattle.object_store.specs.declared.phase.Phase.TheVariants.{Idle, Reading, Writing};
 ghost use Rattle.object_store.specs.State.{Said, StoreState, names_nothing, next_entry};
@@ -68,7 +69,7 @@ pub trait Store<L: Law> {
     fn write(&mut self, at: DPtr, words: Words) -> Result<(), Self::Refused>
         requires begun { (state self.old).phase ≡ Writing }
         requires object { IsBlock (state self.old).shape at }
-        requires few { length words ≤ 1048576 }
+        requires few { length words ≤ MOST_WORDS }
         requires may { MayWrite (state self.old) at }
         ensures keeps { Continues L.fits (state self.old) (state self.new) }
         ensures done { IfOk result (λ _. WritesObject at words (state self.old) (state self.new)) }

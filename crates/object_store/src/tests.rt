@@ -1,6 +1,7 @@
 ghost use Rattle.std.specs.Prelude.{◌≡◌, ◌+◌, ◌<◌, ◌≤◌, ◌^◌, IfOk, OnOk, length};
 ghost use Rattle.object_store.specs.declared.phase.Phase.TheVariants.{Idle};
 ghost use Rattle.rma_layout.specs.Placement.{IsBlock, IsReserved};
+ghost use Rattle.rma_layout.specs.declared.limits.TheConstants.{MOST_WORDS};
 
 use crate::{PlainRefused, PlainStore, Store, give_up};
 use gdi_kinds::NoMemory;
@@ -29,7 +30,7 @@ impl Carries<Anything> for Blank {
 fn put<S: Store<Anything>>(store: &mut S, at: DPtr, words: Words) -> Result<u64, S::Refused>
     requires idle { (S.state store.old).phase ≡ Idle }
     requires object { IsBlock (S.state store.old).shape at × IsReserved (S.state store.old).shape at.block }
-    requires few { length words ≤ 1048576 }
+    requires few { length words ≤ MOST_WORDS }
     requires allowed { 0 < (S.state store.old).allowance }
     ensures idle { (S.state store.new).phase ≡ Idle }
     ensures shape { (S.state store.new).shape ≡ (S.state store.old).shape }
@@ -116,7 +117,7 @@ fn make_on_each<S: Store<Anything>>(
 ) -> Result<u64, S::Refused>
     requires idle { (S.state store.old).phase ≡ Idle }
     requires ranks { ranks ≤ (S.state store.old).shape.ranks }
-    requires few { many ≤ 1048576 }
+    requires few { many ≤ MOST_WORDS }
     requires allowed { 0 < (S.state store.old).allowance }
     ensures idle { OnOk result ((S.state store.new).phase ≡ Idle) }
     ensures shape { (S.state store.new).shape ≡ (S.state store.old).shape }

@@ -4,7 +4,7 @@ use Rattle.std.specs.List.{AllByRecursion, flat_map}
 use Rattle.std.specs.Option.{unwrap_or}
 use Rattle.std.specs.Ordering.{eq_by_cmp}
 use Rattle.std.proofs.lemmas.Bool.{and_parts, and_from}
-use Rattle.rma_layout.specs.Shape.{default_shape}
+use Rattle.rma_layout.specs.Shape.{standard_shape}
 use Rattle.rma_layout.specs.Placement.{Place, same_place}
 use Rattle.object_words.specs.Contents.{Contents, place_cmp, content_of, words_at}
 use Rattle.object_words.proofs.Places.{places_equal, same_places}
@@ -73,9 +73,9 @@ names : HasNames words_of_loops loops.labels loops.types
 unfolding words_from
 names = refl
 
-buckets : HasBuckets default_shape words_of_loops vertices
+buckets : HasBuckets standard_shape words_of_loops vertices
 buckets place is =
-    here_or_not place (record { rank = 1; block = 2 }) (λ p. content_of words_of_loops p ≡ bucket_words (record { entries = entries_of default_shape vertices p })) refl
+    here_or_not place (record { rank = 1; block = 2 }) (λ p. content_of words_of_loops p ≡ bucket_words (record { entries = entries_of standard_shape vertices p })) refl
     (λ apart off. elsewhere words_of_loops place (
       (λ same. omega (arith, is.block, ap (λ (p : Place). p.block) same)),
       (
@@ -94,9 +94,9 @@ buckets place is =
 abbrev pairs_if : Bool → List ℕ
 pairs_if here = flat_map (λ (label : ℕ). flat_map (λ (entry : ℕ × Vertex). pair_words label entry.0) (cond (eqb label 0 && here) loops.vertices [])) (0 ∷ 1 ∷ [])
 
-index : HasIndex default_shape words_of_loops 2 loops.vertices
+index : HasIndex standard_shape words_of_loops 2 loops.vertices
 index place is =
-    here_or_not place (record { rank = 1; block = 66 }) (λ p. content_of words_of_loops p ≡ flat_map (pairs_of_label default_shape loops.vertices p) (0 ∷ 1 ∷ [])) refl
+    here_or_not place (record { rank = 1; block = 66 }) (λ p. content_of words_of_loops p ≡ flat_map (pairs_of_label standard_shape loops.vertices p) (0 ∷ 1 ∷ [])) refl
     (λ apart off. elsewhere words_of_loops place (
       (λ same. omega (arith, is.block.0, ap (λ (p : Place). p.block) same)),
       (
@@ -111,19 +111,19 @@ index place is =
       ),
     ) ∙ sym (ap pairs_if off))
 
-rest : RestIsEmpty default_shape words_of_loops ((record { rank = 1; block = 81 }) ∷ (record { rank = 1; block = 82 }) ∷ [])
+rest : RestIsEmpty standard_shape words_of_loops ((record { rank = 1; block = 81 }) ∷ (record { rank = 1; block = 82 }) ∷ [])
 rest place not_metadata not_bucket not_slot held = elsewhere words_of_loops place (
   (λ same. not_metadata (sym same)),
   (
-    (λ same. not_bucket (subst (IsBucket default_shape) same (record { rank = omega arith; block = (omega arith, omega arith) }))),
+    (λ same. not_bucket (subst (IsBucket standard_shape) same (record { rank = omega arith; block = (omega arith, omega arith) }))),
     (
-      (λ same. not_slot (subst (IsSlot default_shape) same (record { rank = omega arith; block = (omega arith, omega arith) }))),
+      (λ same. not_slot (subst (IsSlot standard_shape) same (record { rank = omega arith; block = (omega arith, omega arith) }))),
       (held.0, (held.1.0, tt)),
     ),
   ),
 )
 
-pub stands : Represents default_shape words_of_loops loops
+pub stands : Represents standard_shape words_of_loops loops
 stands = record {
   well_formed = well_formed;
   vertices = vertices;

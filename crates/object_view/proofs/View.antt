@@ -24,7 +24,7 @@ use Rattle.graph_model.proofs.Entries.{All-find, IsMap-filter, edge_cmp_same, ed
 use Rattle.holder_codec.specs.Bucket.{bucket_words}
 use Rattle.holder_codec.specs.Vertex.{vertex_words}
 use Rattle.holder_codec.specs.Holders.{edge_words, names_words}
-use Rattle.holder_codec.specs.Represents.{VertexObjects, EdgeObjects, object_of, edge_object_of, IsUnreserved, entries_of, holder_of, VertexIsHeld, EdgeIsHeld, heavy_edges, AreApart, places_of, IsRepresented}
+use Rattle.holder_codec.specs.Represents.{VertexObjects, EdgeObjects, object_of, edge_object_of, IsUnreserved, entries_of, holder_of, VertexIsHeld, EdgeIsHeld, heavy_edges, AreApart, places_in, IsRepresented}
 use Rattle.object_view.specs.View.{IsOn, place_in, index_words, reserved_words, ObjectIsHeld, IsViewed}
 use Rattle.holder_codec.proofs.Maps.{some_of, All-over_map, All-append, All-unfilter, All-both, All-from_find, All-below, IsMap-by_keys, find-by_keys, found_of_filter}
 
@@ -106,8 +106,8 @@ module _ (shape : Shape) (g : Graph) (well : IsWellFormed g) (vertices : VertexO
 
   -- what holds of the object of each vertex and of each heavy edge holds of all places
   pub All-places : (P : Place → Type 0) → ((id : ℕ) → is_vertex g id ≡ true → P (object_of vertices id))
-      → ((key : EdgeKey) → is_heavy_at g key.source key.ordinal ≡ true → P (edge_object_of edges key)) → AllByRecursion P (places_of vertices ++ places_of edges)
-  All-places P of_vertex of_edge = All-append P (places_of vertices) (places_of edges)
+      → ((key : EdgeKey) → is_heavy_at g key.source key.ordinal ≡ true → P (edge_object_of edges key)) → AllByRecursion P (places_in vertices ++ places_in edges)
+  All-places P of_vertex of_edge = All-append P (places_in vertices) (places_in edges)
       (All-over_map P (λ entry. entry.1) vertices (All-from_find nat_cmp nat_cmp_total nat_cmp-IsAntisymmetric (λ entry. P entry.1) vertices
       (IsMap-by_keys nat_cmp vertices g.vertices vertex_keys well.vertices) (λ id place found.
       let vertex = find-by_keys nat_cmp vertices g.vertices id place vertex_keys found in
@@ -119,7 +119,7 @@ module _ (shape : Shape) (g : Graph) (well : IsWellFormed g) (vertices : VertexO
       subst P (ap (λ o. unwrap_or o metadata) found) (of_edge key (ap (λ o. option_map_or is_heavy o false) there.0 ∙ there.1)))))
 
   -- and back
-  pub at_vertex : (P : Place → Type 0) → AllByRecursion P (places_of vertices) → (id : ℕ) → is_vertex g id ≡ true → P (object_of vertices id)
+  pub at_vertex : (P : Place → Type 0) → AllByRecursion P (places_in vertices) → (id : ℕ) → is_vertex g id ≡ true → P (object_of vertices id)
   at_vertex P all id there =
       let vertex = some_of (vertex_at g id) there in
       let place = find-by_keys nat_cmp g.vertices vertices id vertex.0 (sym vertex_keys) vertex.1 in
@@ -131,7 +131,7 @@ module _ (shape : Shape) (g : Graph) (well : IsWellFormed g) (vertices : VertexO
       let edge = heavy_edge (edge_at g key.source key.ordinal) heavy in
       (edge.0, found_in_filter edge_cmp edge_cmp_same (λ entry. is_heavy entry.1) g.edges key edge.0 edge.1 edge.2)
 
-  pub at_edge : (P : Place → Type 0) → AllByRecursion P (places_of edges) → (key : EdgeKey) → is_heavy_at g key.source key.ordinal ≡ true → P (edge_object_of edges key)
+  pub at_edge : (P : Place → Type 0) → AllByRecursion P (places_in edges) → (key : EdgeKey) → is_heavy_at g key.source key.ordinal ≡ true → P (edge_object_of edges key)
   at_edge P all key heavy =
       let edge = found_heavy key heavy in
       let place = find-by_keys edge_cmp (heavy_edges g.edges) edges key edge.0 (sym edge_keys) edge.1 in
@@ -155,7 +155,7 @@ module _ (shape : Shape) (store : Contents) (g : Graph) (well : IsWellFormed g) 
       )
 
   -- a reserved place is none of the others
-  none_reserved : (place : Place) → IsReserved shape place.block → AllByRecursion (λ other. other ≢ place) (places_of vertices ++ places_of edges)
+  none_reserved : (place : Place) → IsReserved shape place.block → AllByRecursion (λ other. other ≢ place) (places_in vertices ++ places_in edges)
   none_reserved place reserved = All-places shape g well vertices edges is.vertex_keys is.edge_keys (λ other. other ≢ place)
       (λ id there here. (vertex_is id there).2.place.unreserved (subst (λ (p : Place). IsReserved shape p.block) (sym here) reserved))
       (λ key heavy here. (edge_is key heavy).2.place.unreserved (subst (λ (p : Place). IsReserved shape p.block) (sym here) reserved))
@@ -206,7 +206,7 @@ module _ (shape : Shape) (store : Contents) (g : Graph) (well : IsWellFormed g) 
 
   vertex_no_edge : (id : ℕ) (key : EdgeKey) → is_vertex g id ≡ true → is_heavy_at g key.source key.ordinal ≡ true → edge_object_of edges key ≢ object_of vertices id
   vertex_no_edge id key there heavy =
-      let across = at_vertex shape g well vertices edges is.vertex_keys is.edge_keys (λ p. AllByRecursion (λ other. other ≢ p) (places_of edges)) (apart_across (places_of vertices) (places_of edges) is.apart) id there in
+      let across = at_vertex shape g well vertices edges is.vertex_keys is.edge_keys (λ p. AllByRecursion (λ other. other ≢ p) (places_in edges)) (apart_across (places_in vertices) (places_in edges) is.apart) id there in
       at_edge shape g well vertices edges is.vertex_keys is.edge_keys (λ other. other ≢ object_of vertices id) across key heavy
 
   free_reserved : {A : Type 0} (rank block : ℕ) (place : Place) → block < reserved_blocks shape → IsUnreserved shape rank place → place ≡ record { rank = rank; block = block } → A

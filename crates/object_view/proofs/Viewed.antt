@@ -22,7 +22,7 @@ use Rattle.graph_model.proofs.Entries.{All-map, edge_cmp_same, edge_cmp_total}
 use Rattle.holder_codec.specs.Bucket.{bucket_words}
 use Rattle.holder_codec.specs.Vertex.{vertex_words}
 use Rattle.holder_codec.specs.Holders.{edge_words, names_words}
-use Rattle.holder_codec.specs.Represents.{VertexObjects, EdgeObjects, object_of, edge_object_of, IsBucket, IsSlot, entries_of, holder_of, VertexIsHeld, EdgeIsHeld, heavy_edges, AreApart, places_of, IsRepresented}
+use Rattle.holder_codec.specs.Represents.{VertexObjects, EdgeObjects, object_of, edge_object_of, IsBucket, IsSlot, entries_of, holder_of, VertexIsHeld, EdgeIsHeld, heavy_edges, AreApart, places_in, IsRepresented}
 use Rattle.object_view.specs.View.{index_words, reserved_words, IsUnheld, IsViewed}
 use Rattle.holder_codec.proofs.Maps.{All-over_map, All-from_find, IsMap-by_keys, find-by_keys, found_of_filter}
 use Rattle.object_view.proofs.View.{All-split, distinct-append, distinct_rising, distinct_apart, at_vertex, at_edge, heavy_rises}
@@ -77,16 +77,16 @@ module _ (shape : Shape) (store : Contents) (g : Graph) (well : IsWellFormed g) 
       let there = found_of_filter edge_cmp edge_cmp_total edge_cmp_same (λ entry. is_heavy entry.1) g.edges key edge.0 well.edges edge.1 in
       (ap (λ o. unwrap_or o metadata) found, ap (λ o. option_map_or is_heavy o false) there.0 ∙ there.1))
 
-  all_apart : AreApart (places_of vertices ++ places_of edges)
-  all_apart = distinct_apart _ (distinct-append (places_of vertices) (places_of edges)
+  all_apart : AreApart (places_in vertices ++ places_in edges)
+  all_apart = distinct_apart _ (distinct-append (places_in vertices) (places_in edges)
       (distinct_rising nat_cmp IsVertexEntry (λ entry. entry.1) (λ a b at_a at_b less same. less_apart nat_cmp nat_cmp_total a.0 b.0 less (same_vertex b.0 a.0 at_b.1 at_a.1 (at_b.0 ∙ same ∙ sym at_a.0))) vertices each_vertex_entry vertices_rise)
       (distinct_rising edge_cmp IsEdgeEntry (λ entry. entry.1) (λ a b at_a at_b less same. less_apart edge_cmp edge_cmp_total a.0 b.0 less (same_key b.0 a.0 at_b.1 at_a.1 (at_b.0 ∙ same ∙ sym at_a.0))) edges each_edge_entry edges_rise)
-      (All-over_map (λ place. AllByRecursion (λ other. other ≢ place) (places_of edges)) (λ entry. entry.1) vertices
-      (All-map IsVertexEntry (λ a. AllByRecursion (λ other. other ≢ a.1) (places_of edges)) (λ a at_a.
+      (All-over_map (λ place. AllByRecursion (λ other. other ≢ place) (places_in edges)) (λ entry. entry.1) vertices
+      (All-map IsVertexEntry (λ a. AllByRecursion (λ other. other ≢ a.1) (places_in edges)) (λ a at_a.
       All-over_map (λ other. other ≢ a.1) (λ entry. entry.1) edges (All-map IsEdgeEntry (λ b. b.1 ≢ a.1) (λ b at_b same. vertex_no_edge a.0 b.0 at_a.1 at_b.1 (at_b.0 ∙ same ∙ sym at_a.0)) edges each_edge_entry))
       vertices each_vertex_entry)))
 
-  nothing_else : (place : Place) → place ≢ metadata → (IsBucket shape place → ⊥) → (IsSlot shape place → ⊥) → AllByRecursion (λ other. other ≢ place) (places_of vertices ++ places_of edges) → content_of store place ≡ []
+  nothing_else : (place : Place) → place ≢ metadata → (IsBucket shape place → ⊥) → (IsSlot shape place → ⊥) → AllByRecursion (λ other. other ≢ place) (places_in vertices ++ places_in edges) → content_of store place ≡ []
   nothing_else place not_metadata not_bucket not_slot not_held = cases (nat_lt place.rank shape.ranks && nat_lt place.block (reserved_blocks shape)) refl
     where
       reserved : place.rank < shape.ranks → place.block < reserved_blocks shape → (z r s : Bool) → (place.block == 0) ≡ z → (place.rank == 0) ≡ r → nat_lt shape.buckets place.block ≡ s → content_of store place ≡ []
@@ -102,8 +102,8 @@ module _ (shape : Shape) (store : Contents) (g : Graph) (well : IsWellFormed g) 
           let within : place.rank < shape.ranks = omega (arith, on.0, ranks) in
           let below : place.block < reserved_blocks shape = omega (arith, on.1, blocks) in
           grind (arith, nat_tests, not_reserved, within, below)
-      unheld not_reserved rank (OfVertex id) on here = at_vertex shape g well vertices edges v.vertex_keys v.edge_keys (λ other. other ≢ place) (All-split (λ other. other ≢ place) (places_of vertices) (places_of edges) not_held).0 id on.1 here
-      unheld not_reserved rank (OfHeavyEdge source ordinal) on here = at_edge shape g well vertices edges v.vertex_keys v.edge_keys (λ other. other ≢ place) (All-split (λ other. other ≢ place) (places_of vertices) (places_of edges) not_held).1 (record { source = source; ordinal = ordinal }) on.1 here
+      unheld not_reserved rank (OfVertex id) on here = at_vertex shape g well vertices edges v.vertex_keys v.edge_keys (λ other. other ≢ place) (All-split (λ other. other ≢ place) (places_in vertices) (places_in edges) not_held).0 id on.1 here
+      unheld not_reserved rank (OfHeavyEdge source ordinal) on here = at_edge shape g well vertices edges v.vertex_keys v.edge_keys (λ other. other ≢ place) (All-split (λ other. other ≢ place) (places_in vertices) (places_in edges) not_held).1 (record { source = source; ordinal = ordinal }) on.1 here
 
       cases : (t : Bool) → (nat_lt place.rank shape.ranks && nat_lt place.block (reserved_blocks shape)) ≡ t → content_of store place ≡ []
       cases true is =

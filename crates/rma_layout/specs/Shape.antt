@@ -13,8 +13,8 @@ pub record Shape : Type 0 where
   pub slots : ℕ
 
 -- 4 ranks of 16,384 blocks of 16 words
-abbrev pub default_shape : Shape
-default_shape = record { ranks = 4; blocks = 16384; words = 16; buckets = 64; slots = 16 }
+abbrev pub standard_shape : Shape
+standard_shape = record { ranks = 4; blocks = 16384; words = 16; buckets = 64; slots = 16 }
 
 -- the blocks of a rank that are kept for the metadata, the buckets and the index
 abbrev pub reserved_blocks : Shape → ℕ

@@ -1,5 +1,5 @@
 ghost use Rattle.std.specs.Prelude.{◌≡◌, ◌≤◌, Some, None, MatchResult};
-ghost use Rattle.rma_layout.specs.Shape.{Shape, default_shape, reserved_blocks};
+ghost use Rattle.rma_layout.specs.Shape.{Shape, standard_shape, reserved_blocks};
 ghost use Rattle.rma_layout.specs.Ranges.{is_between, refusal_of, IsInRange};
 
 mod numbers;
@@ -93,7 +93,7 @@ impl Geometry {
     /// The geometry of a program that is told none: 4 ranks of 16,384 blocks of 16 words, with 64 buckets and 16 slots
     /// a rank.
     pub fn standard() -> Geometry
-        ensures { result ≡ default_shape }
+        ensures { result ≡ standard_shape }
     {
         Geometry {
             ranks: 4,

@@ -1,7 +1,7 @@
 use crate::{ScriptRefused, print_outcomes, print_script, read_script};
 use gdi_kinds::{
-    EdgeLine, EdgeList, Line, LineList, Name, NameList, NumList, Outcome, Pair, PairList, Printed, PropLine, PropList, Reply,
-    ReplyList, Text, Value, ValueList,
+    EdgeLine, EdgeList, Line, LineList, Name, NameList, NumList, Outcome, Pair, PairList, Printed,
+    PropLine, PropList, Reply, ReplyList, Text, Value, ValueList,
 };
 use std::alloc::Global;
 use std::test::Fail;
@@ -160,7 +160,13 @@ fn script_faults(rt: HostRuntime) {
 }
 
 // A text of some lines and a line that is repeated, and lines behind it.
-fn repeated(alloc: Global, front: &[u8], line: &[u8], times: usize, back: &[u8]) -> Result<Vec<u8>, Fail> {
+fn repeated(
+    alloc: Global,
+    front: &[u8],
+    line: &[u8],
+    times: usize,
+    back: &[u8],
+) -> Result<Vec<u8>, Fail> {
     let mut text = Vec::from_slice(alloc, front)?;
     for _ in 0..times {
         text.extend_from_slice(line)?;
@@ -179,14 +185,28 @@ fn limits(rt: HostRuntime) -> Result<(), Fail> {
         (b"", b"section\n", 4097, b"", 4097, 8),
         (b"#\n", b"section\n", 4096, b"\nsection x", 4099, 4),
         (b"section\n", b"txn\nend\n", 1_048_576, b"", 0, 0),
-        (b"section\n", b"all\nabort\n", 1_048_576, b"txn", 2_097_154, 8),
+        (
+            b"section\n",
+            b"all\nabort\n",
+            1_048_576,
+            b"txn",
+            2_097_154,
+            8,
+        ),
         (b"section\ntxn\n", b"has 1\n", 65_536, b"end\n", 0, 0),
         (b"section\ntxn\n", b"has 1\n", 65_537, b"end\n", 65_539, 8),
         (b"section\ntxn\n", b"has 1\n", 65_536, b"has 01", 65_539, 5),
         (b"section\ntxn\nend\nall\n", b"arcs\n", 65_536, b"end", 0, 0),
         (b"section\ntxn\nfind A where has A", has, 63, b"\nend", 0, 0),
         (b"section\ntxn\nfind A where has A", has, 64, b"\nend", 3, 8),
-        (b"section\ntxn\nfind A where has A", has, 64, b" or has 9\nend", 3, 7),
+        (
+            b"section\ntxn\nfind A where has A",
+            has,
+            64,
+            b" or has 9\nend",
+            3,
+            7,
+        ),
         (b"section\ntxn\nset 1 t \"", b"a", 255, b"\"\nend", 0, 0),
         (b"section\ntxn\nset 1 t \"", b"a", 256, b"\"\nend", 3, 6),
     ];
@@ -282,10 +302,28 @@ fn outcomes_printed(rt: HostRuntime) -> Result<(), Fail> {
     let alloc = rt.alloc();
     let mut lines = LineList::new(alloc);
     for (txn, outcome) in [
-        (1, Outcome::Wrote { k: 3, replies: replies(alloc)? }),
-        (2, Outcome::Read { place: 0, replies: ReplyList::new(alloc) }),
+        (
+            1,
+            Outcome::Wrote {
+                k: 3,
+                replies: replies(alloc)?,
+            },
+        ),
+        (
+            2,
+            Outcome::Read {
+                place: 0,
+                replies: ReplyList::new(alloc),
+            },
+        ),
         (3, Outcome::Aborted),
-        (4, Outcome::Full { rank: 65_535, place: 4 }),
+        (
+            4,
+            Outcome::Full {
+                rank: 65_535,
+                place: 4,
+            },
+        ),
     ] {
         lines.push(Line {
             section: 2,
@@ -294,7 +332,8 @@ fn outcomes_printed(rt: HostRuntime) -> Result<(), Fail> {
         })?;
     }
     let printed = print_outcomes(alloc, &Printed { lines, writes: 5 })?;
-    let wanted: &[u8] = b"2.1 w 3\n done\n yes\n no\n exists\n novertex 7\n noedge\n nolabel\n notype\n noprop\n\
+    let wanted: &[u8] =
+        b"2.1 w 3\n done\n yes\n no\n exists\n novertex 7\n noedge\n nolabel\n notype\n noprop\n\
  wrongkind\n notmany\n haslabel\n lackslabel\n toolarge\n edge 1 209713\n labels KNOWS A\n labels\n\
  props name=\"Byron, \\\"George\\\"\" n=-5\n value false\n values 5 \"a\\\\\"\n\
  edges out:1:0:2 in:1:0:2 und:1:0:2\n ids 0 18446744073709551615\n levels 1:2\n parts\n count 2\n\
@@ -304,6 +343,9 @@ fn outcomes_printed(rt: HostRuntime) -> Result<(), Fail> {
         lines: LineList::new(alloc),
         writes: 0,
     };
-    assert_eq!(rt; print_outcomes(alloc, &none)?.as_slice(), b"writes 0\n".as_slice());
+    assert_eq!(rt;
+        print_outcomes(alloc, &none)?.as_slice(),
+        b"writes 0\n".as_slice()
+    );
     Ok(())
 }

@@ -3,6 +3,7 @@ ghost use Rattle.rma_layout.specs.Placement.{IsBlock};
 ghost use Rattle.object_store.specs.declared.phase.Phase.TheVariants.{Writing};
 ghost use Rattle.object_store.specs.Calls.{MayWrite, WritesObject};
 ghost use Rattle.object_store.specs.Works.{At, Nowhere, Works};
+ghost use Rattle.rma_layout.specs.declared.limits.TheConstants.{MOST_WORDS};
 
 use crate::holder::Holder;
 use gdi_kinds::NoMemory;
@@ -22,7 +23,7 @@ pub fn put<L: KeepsGraph, S: Store<L>, H: Holder>(
     requires object { IsBlock (S.state store.old).shape at }
     requires may { MayWrite (S.state store.old) at }
     requires is { IfOk made H.IsHolder }
-    requires few { IfOk made (λ held. length (H.words_of held) ≤ 1048576) }
+    requires few { IfOk made (λ held. length (H.words_of held) ≤ MOST_WORDS) }
     ensures works { Works L.fits S.state S.explains S.says (At at) Nowhere store.old store.new result }
     ensures wrote { OnOk result (IsOkAnd made (λ held. WritesObject at (H.words_of held) (S.state store.old) (S.state store.new))) }
 {

@@ -1,6 +1,6 @@
 use Rattle.std.proofs.Common.{[], sym, subst, ap, arith, length}
 use Rattle.std.proofs.lemmas.List.{get_or_default}
-use Rattle.rma_layout.specs.Shape.{default_shape}
+use Rattle.rma_layout.specs.Shape.{standard_shape}
 use Rattle.graph_model.specs.LegalRun.{IsLegalRun}
 use Rattle.gdi_run.specs.ScriptText.{IsPlainScript}
 use Rattle.gdi_run.proofs.PlainRuns.{few_writes, plain_is_legal}
@@ -21,7 +21,7 @@ returns-clause-legal c =
     let plain = subst IsPlainScript (sym c.as_slice-section-items.ensures) c.requires in
     let legal = plain_is_legal c.as_slice-section-items.result.now c.loop-index.run.lines c.loop-index.run.graph.graph c.loop-index.run.writes c.loop-index.index plain c.loop-index-test.false
     c.loop-index.invariant.lines c.loop-index.invariant.writes in
-    subst (λ script. IsLegalRun default_shape [] script (record { lines = c.loop-index.run.lines; writes = c.loop-index.run.writes })) c.as_slice-section-items.ensures legal.0
+    subst (λ script. IsLegalRun standard_shape [] script (record { lines = c.loop-index.run.lines; writes = c.loop-index.run.writes })) c.as_slice-section-items.ensures legal.0
 
 pub returns-clause-words : goal.returns-clause-words
 returns-clause-words c =
