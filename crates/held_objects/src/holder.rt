@@ -1,8 +1,10 @@
 ghost use Rattle.std.specs.Prelude.{◌≡◌, ◌≢◌, ℕ, List, IfOk, MatchOption};
 ghost use Rattle.holder_codec.specs.Bucket.{IsBucketHolder, bucket_words};
+ghost use Rattle.holder_codec.specs.Index.{IsIndexHolder, index_words};
+ghost use Rattle.holder_codec.specs.Vertex.{IsVertexHolder, vertex_words};
 
 use gdi_kinds::NoMemory;
-use holder_codec::BucketHolder;
+use holder_codec::{BucketHolder, IndexHolder, VertexHolder};
 use object_words::Words;
 use std::alloc::Global;
 
@@ -33,5 +35,33 @@ impl Holder for BucketHolder {
 
     fn read_words(alloc: Global, words: &Words) -> Result<Option<BucketHolder>, NoMemory> {
         BucketHolder::read(alloc, words)
+    }
+}
+
+impl Holder for VertexHolder {
+    ghost IsHolder = { IsVertexHolder };
+
+    ghost words_of = { vertex_words };
+
+    fn write_words(&self, alloc: Global) -> Result<Words, NoMemory> {
+        self.write(alloc)
+    }
+
+    fn read_words(alloc: Global, words: &Words) -> Result<Option<VertexHolder>, NoMemory> {
+        VertexHolder::read(alloc, words)
+    }
+}
+
+impl Holder for IndexHolder {
+    ghost IsHolder = { IsIndexHolder };
+
+    ghost words_of = { index_words };
+
+    fn write_words(&self, alloc: Global) -> Result<Words, NoMemory> {
+        self.write(alloc)
+    }
+
+    fn read_words(alloc: Global, words: &Words) -> Result<Option<IndexHolder>, NoMemory> {
+        IndexHolder::read(alloc, words)
     }
 }

@@ -63,7 +63,7 @@ abbrev pub IsFrom : ℕ → EdgeKey × Edge → Type 0
 IsFrom id entry = entry.0.source ≡ id
 
 module _ (shape : Shape) (store : Contents) (g : Graph) (r : Represents shape store g) (ranges : IsInRange shape) where
-  few_names : (length g.labels < 2 ^ 32) × (length g.types < 2 ^ 32)
+  pub few_names : (length g.labels < 2 ^ 32) × (length g.types < 2 ^ 32)
   few_names =
       let words = ap (λ (words : List ℕ). length words) r.represented.names in
       let names = names_within g.labels g.types in

@@ -9,7 +9,8 @@ use Rattle.std.specs.declared.cmp.Ordering.TheVariants.{Less, Equal, Greater}
 use Rattle.std.specs.FinMap.{IsAntisymmetric, find, is_sorted, put}
 use Rattle.std.specs.FinMap.Entries.{by_order, find-put, find-where_key, is_sorted-put, is_sorted-where_key, same_entries, where_key}
 use lib.Dec.{T}
-use Rattle.rising_lists.specs.Rising.{item_of, with_item}
+use Rattle.rising_lists.specs.Rising.{by_key, item_of, with_item}
+use Rattle.rising_lists.proofs.Rising.{same_items, is_sorted-with_item, is_sorted-where, item_of-where, item_of-with_item}
 
 equal_is : (o : Ordering) → is_eq o ≡ true → o ≡ Equal
 equal_is Less is = absurd (cc is)
@@ -100,3 +101,35 @@ module _ {E K X : Type 0} (key : E → K) {R : K → K → Ordering} (same : IsA
         | true ↦ ap (λ others. made e ∷ others) rest
         | false ↦ rest
       ] ∙ ap (λ k. cond (p k) (made e ∷ filter (λ item. p (key item)) (map made es)) (filter (λ item. p (key item)) (map made es))) (sym (key_is e))
+
+-- ---- items whose keys pass a test, where one more item comes
+
+module _ {E K : Type 0} (key : E → K) {R : K → K → Ordering} (total : IsTotalOrder R) (same : IsAntisymmetric R) (p : K → Bool) (item : E) (es : List E) (rise : is_sorted R (by_key key es) ≡ true) where
+  abbrev chosen : List E → List E
+  chosen xs = filter (λ e. p (key e)) xs
+
+  chosen_sorted : (xs : List E) → is_sorted R (by_key key xs) ≡ true → is_sorted R (by_key key (chosen xs)) ≡ true
+  chosen_sorted xs = is_sorted-where key total same p xs
+
+  more_sorted : is_sorted R (by_key key (with_item key R item es)) ≡ true
+  more_sorted = is_sorted-with_item key total same item es rise
+
+  pub chosen-with_item : p (key item) ≡ true → chosen (with_item key R item es) ≡ with_item key R item (chosen es)
+  chosen-with_item kept =
+      same_items key total same _ _ (chosen_sorted _ more_sorted) (is_sorted-with_item key total same item (chosen es) (chosen_sorted es rise)) (λ k.
+      item_of-where key total same p (with_item key R item es) k ∙ (ap (λ o. cond (p k) o None) (item_of-with_item key total same item es k) ∙ (cases k (eq_by_cmp R k (key item)) refl
+      ∙ (ap (cond (eq_by_cmp R k (key item)) (Some item)) (sym (item_of-where key total same p es k)) ∙ sym (item_of-with_item key total same item (chosen es) k)))))
+    where
+      cases : (k : K) (tie : Bool) → eq_by_cmp R k (key item) ≡ tie → cond (p k) (cond tie (Some item) (item_of key R es k)) None ≡ cond tie (Some item) (cond (p k) (item_of key R es k) None)
+      cases k true tie = ap (λ b. cond b (Some item) None) (ap p (tied same k (key item) tie) ∙ kept)
+      cases k false tie = refl
+
+  pub chosen-with_item_other : p (key item) ≡ false → chosen (with_item key R item es) ≡ chosen es
+  chosen-with_item_other dropped =
+      same_items key total same _ _ (chosen_sorted _ more_sorted) (chosen_sorted es rise) (λ k.
+      item_of-where key total same p (with_item key R item es) k ∙ (ap (λ o. cond (p k) o None) (item_of-with_item key total same item es k) ∙ (cases k (eq_by_cmp R k (key item)) refl
+      ∙ sym (item_of-where key total same p es k))))
+    where
+      cases : (k : K) (tie : Bool) → eq_by_cmp R k (key item) ≡ tie → cond (p k) (cond tie (Some item) (item_of key R es k)) None ≡ cond (p k) (item_of key R es k) None
+      cases k true tie = let no = ap p (tied same k (key item) tie) ∙ dropped in ap (λ b. cond b (Some item) None) no ∙ sym (ap (λ b. cond b (item_of key R es k) None) no)
+      cases k false tie = refl

@@ -1,6 +1,6 @@
 -- A list of items that rise by their keys: it is a map in order, so what std knows of maps holds of it; where a key
 -- stands, and the list with one item more or less.
-use Rattle.std.proofs.Common.{◌≡◌, ℕ, zero, suc, ◌+◌, ◌<◌, ◌≤◌, Bool, true, false, cond, eqb, ◌&&◌, List, [], ◌∷◌, length, get_or, slice_get, Some, None, Result, Ok, Err, MatchResult, refl, sym, ap, subst, ◌∙◌, arith}
+use Rattle.std.proofs.Common.{◌≡◌, ℕ, zero, suc, ◌+◌, ◌<◌, ◌≤◌, Bool, true, false, cond, eqb, ◌&&◌, List, [], ◌∷◌, map, length, get_or, slice_get, Some, None, Result, Ok, Err, MatchResult, refl, sym, ap, subst, ◌∙◌, arith}
 use Rattle.std.specs.List.{AllByRecursion, filter, insert}
 use Rattle.std.specs.List.Sorted.{IsSearchInRange, IsBinarySearchResult, IsSortedBy}
 use Rattle.std.specs.Prelude.{nat_lt}
@@ -9,7 +9,7 @@ use Rattle.std.specs.Cmp.{IsTotalOrder, tied_itself}
 use Rattle.std.specs.declared.cmp.Ordering.{Ordering}
 use Rattle.std.specs.declared.cmp.Ordering.TheVariants.{Less, Equal, Greater}
 use Rattle.std.specs.FinMap.{IsAntisymmetric, find, is_sorted, put}
-use Rattle.std.specs.FinMap.Entries.{by_order, below_all, find-put, is_sorted-put, is_sorted-where_key, where_key}
+use Rattle.std.specs.FinMap.Entries.{by_order, below_all, find-put, find-where_key, same_entries, is_sorted-put, is_sorted-where_key, where_key}
 use lib.Dec.{T}
 use Rattle.std.proofs.lemmas.Bool.{and_parts, and_from}
 use Rattle.std.proofs.lemmas.List.Sorted.{searchable_from_sorted}
@@ -63,6 +63,13 @@ length-with_item key R item (e ∷ es) =
       | Greater ↦ omega (arith, rest)
     ]
 
+from_by_key : {E K : Type 0} (key : E → K) (es fs : List E) → by_key key es ≡ by_key key fs → es ≡ fs
+from_by_key {E} {K} key es fs same = sym (items es) ∙ (ap (map (λ entry. entry.1)) same ∙ items fs)
+  where
+    items : (xs : List E) → map (λ entry. entry.1) (by_key key xs) ≡ xs
+    items [] = refl
+    items (x ∷ xs) = ap (λ others. x ∷ others) (items xs)
+
 module _ {E K : Type 0} (key : E → K) {R : K → K → Ordering} (total : IsTotalOrder R) (same : IsAntisymmetric R) where
   -- ---- the list as a map
 
@@ -88,10 +95,23 @@ module _ {E K : Type 0} (key : E → K) {R : K → K → Ordering} (total : IsTo
   pub item_of-with_item : (item : E) (es : List E) (k : K) → item_of key R (with_item key R item es) k ≡ cond (eq_by_cmp R k (key item)) (Some item) (item_of key R es k)
   item_of-with_item item es k = ap (find R k) (by_key-with_item item es) ∙ find-put R total k (key item) item (by_key key es)
 
+  pub item_of-where : (p : K → Bool) (es : List E) (k : K) → item_of key R (filter (λ e. p (key e)) es) k ≡ cond (p k) (item_of key R es k) None
+  item_of-where p es k = ap (find R k) (by_key-where p es) ∙ find-where_key R p k (λ other is. ap p (sym (same k other is))) (by_key key es)
+
+  -- two lists that rise and have the same items are one
+  pub same_items : (es fs : List E) → is_sorted R (by_key key es) ≡ true → is_sorted R (by_key key fs) ≡ true → ((k : K) → item_of key R es k ≡ item_of key R fs k) → es ≡ fs
+  same_items es fs a b alike = from_by_key key es fs (same_entries R total same (by_key key es) (by_key key fs) (to_T _ a) (to_T _ b) alike)
+
+  pub is_sorted-with_item : (item : E) (es : List E) → is_sorted R (by_key key es) ≡ true → is_sorted R (by_key key (with_item key R item es)) ≡ true
+  is_sorted-with_item item es rise = ap (is_sorted R) (by_key-with_item item es) ∙ of_T _ (is_sorted-put R total (key item) item (by_key key es) (to_T _ rise))
+
+  pub is_sorted-where : (p : K → Bool) (es : List E) → is_sorted R (by_key key es) ≡ true → is_sorted R (by_key key (filter (λ e. p (key e)) es)) ≡ true
+  is_sorted-where p es rise = ap (is_sorted R) (by_key-where p es) ∙ of_T _ (is_sorted-where_key R p (by_key key es) (to_T _ rise))
+
   -- ---- each before the next, and each before all that follow
 
   module _ (before : E → E → Bool) (alike : (x y : E) → before x y ≡ is_lt (R (key x) (key y))) where
-    sorted : (es : List E) → is_rising before es ≡ true → is_sorted R (by_key key es) ≡ true
+    pub sorted : (es : List E) → is_rising before es ≡ true → is_sorted R (by_key key es) ≡ true
     sorted [] rising = refl
     sorted (e ∷ []) rising = refl
     sorted (e ∷ f ∷ es) rising =
@@ -102,7 +122,7 @@ module _ {E K : Type 0} (key : E → K) {R : K → K → Ordering} (total : IsTo
         and_from (is_lt (R (key e) (key f)) && below_all R (key e) (by_key key es)) (is_sorted R (by_key key (f ∷ es)))
         (and_from (is_lt (R (key e) (key f))) (below_all R (key e) (by_key key es)) first (below_lower total (key e) (key f) (by_key key es) (less_is (R (key e) (key f)) first) later)) rest
 
-    is_rising-from : (es : List E) → is_sorted R (by_key key es) ≡ true → is_rising before es ≡ true
+    pub is_rising-from : (es : List E) → is_sorted R (by_key key es) ≡ true → is_rising before es ≡ true
     is_rising-from [] rise = refl
     is_rising-from (e ∷ []) rise = refl
     is_rising-from (e ∷ f ∷ es) rise =
@@ -111,11 +131,11 @@ module _ {E K : Type 0} (key : E → K) {R : K → K → Ordering} (total : IsTo
 
     pub is_rising-with_item : (item : E) (es : List E) → is_rising before es ≡ true → is_rising before (with_item key R item es) ≡ true
     is_rising-with_item item es rising =
-        is_rising-from (with_item key R item es) (ap (is_sorted R) (by_key-with_item item es) ∙ of_T _ (is_sorted-put R total (key item) item (by_key key es) (to_T _ (sorted es rising))))
+        is_rising-from (with_item key R item es) (is_sorted-with_item item es (sorted es rising))
 
     pub is_rising-where : (p : K → Bool) (es : List E) → is_rising before es ≡ true → is_rising before (filter (λ e. p (key e)) es) ≡ true
     is_rising-where p es rising =
-        is_rising-from (filter (λ e. p (key e)) es) (ap (is_sorted R) (by_key-where p es) ∙ of_T _ (is_sorted-where_key R p (by_key key es) (to_T _ (sorted es rising))))
+        is_rising-from (filter (λ e. p (key e)) es) (is_sorted-where p es (sorted es rising))
 
   -- ---- where a key stands
 

@@ -1,0 +1,5 @@
+pub mod Keys
+pub mod Slots
+pub mod Knows
+pub mod InSlots
+pub mod Tagged
