@@ -26,10 +26,10 @@ module _ {N : Type 0} (fits : Shape → Entry N → Type 0) (slots id : ℕ) (me
       let number = number_of shape word in
       let words = words_in shape state.words in
       let here : words word ≡ slice_index state.words number =
-          words_in-word shape state.words word is_w in
+      words_in-word shape state.words word is_w in
       let gone = permits.goes words state.views id
-          (record { lawful = h.lawful; there = there; live = live; in_range = in_range })
-          (omega arith) in (
+      (record { lawful = h.lawful; there = there; live = live; in_range = in_range })
+      (omega arith) in (
         gone.after,
         keeps,
         tt,
@@ -39,7 +39,7 @@ module _ {N : Type 0} (fits : Shape → Entry N → Type 0) (slots id : ℕ) (me
               (sym (words_in-set shape state.words word
               (f (slice_index state.words number)) h.sized is_w))
               (subst (λ found. IsLawful fits shape (with_word words word (f found))
-                  (set state.views id gone.after)) here gone.lawful);
+              (set state.views id gone.after)) here gone.lawful);
         },
         (subst (λ found. Told me.0 found gone.after) here gone.told, gone.same_rights, refl),
       )
@@ -48,14 +48,14 @@ module _ {N : Type 0} (fits : Shape → Entry N → Type 0) (slots id : ℕ) (me
   abbrev pub Asked : TableId → TableId → Shape → ℕ → Type 0
   Asked table seat key number =
       (seat ≡ table) × (number < table.words)
-          × Allows (IsRuled fits key) slots id me number f (Tells Told me)
+      × Allows (IsRuled fits key) slots id me number f (Tells Told me)
 
   pub step_call : (word : Word) (table seat : TableId) (key geometry : Shape) (window : WindowModel)
       (rank : RankModel N) (number : ℕ)
       → (let seen : WindowModel = record { id = table; shape = geometry } in seen ≡ window)
-          → IsSized table key geometry
+      → IsSized table key geometry
       → (let seen : RankModel N = record { window = seat; view = me.0 } in seen ≡ rank)
-          → ¬ me.0.rights ≡ []
+      → ¬ me.0.rights ≡ []
       → rank.window ≡ window.id → IsWord window.shape word → number ≡ number_of window.shape word
       → Permits fits window.shape word f rank.view (Told rank.view)
       → Asked table seat key number
@@ -65,16 +65,16 @@ module _ {N : Type 0} (fits : Shape → Entry N → Type 0) (slots id : ℕ) (me
       let view_is : me.0 ≡ rank.view = ap (λ (r : RankModel N). r.view) rank_is in
       let word_here : IsWord geometry word = subst (λ s. IsWord s word) (sym shape_is) is_word in
       let numbered : number ≡ number_of geometry word = number_is
-          ∙ ap (λ s. number_of s word) (sym shape_is) in
+      ∙ ap (λ s. number_of s word) (sym shape_is) in
       let permits_here : Permits fits geometry word f me.0 (Told me.0) =
       subst (λ v. Permits fits geometry word f v (Told v)) (sym view_is)
-          (subst (λ s. Permits fits s word f rank.view (Told rank.view))
-          (sym shape_is) permits) in (
+      (subst (λ s. Permits fits s word f rank.view (Told rank.view))
+      (sym shape_is) permits) in (
         ap (λ (r : RankModel N). r.window) rank_is
             ∙ (of_window ∙ sym (ap (λ (w : WindowModel). w.id) window_is)),
         omega (arith, number_of-lt geometry word word_here, sized.words),
         subst (λ k. Allows (IsRuled fits k) slots id me number f (Tells Told me)) (sym sized.same)
             (subst (λ n. Allows (IsRuled fits geometry) slots id me n f (Tells Told me))
-                (sym numbered)
+            (sym numbered)
             (permitted geometry word word_here sized.in_range live permits_here)),
       )

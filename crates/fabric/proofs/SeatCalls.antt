@@ -19,9 +19,9 @@ some_words table key geometry sized = omega (arith, number_of-lt geometry Commit
 module _ {N : Type 0} (fits : Shape → Entry N → Type 0) (id : ℕ) (view : View N)
     (table seat : TableId) (key geometry : Shape) (window : WindowModel) (rank : RankModel N)
     (window_is : (let seen : WindowModel = record { id = table; shape = geometry } in
-        seen ≡ window)) (sized : IsSized table key geometry)
+    seen ≡ window)) (sized : IsSized table key geometry)
     (rank_is : (let seen : RankModel N = record { window = seat; view = view } in
-        seen ≡ rank)) where
+    seen ≡ rank)) where
   view_is : view ≡ rank.view
   view_is = ap (λ (r : RankModel N). r.view) rank_is
 
@@ -32,22 +32,22 @@ module _ {N : Type 0} (fits : Shape → Entry N → Type 0) (id : ℕ) (view : V
   pub split_call : (right commits picked_right picked : ℕ) → rank.window ≡ window.id
       → (picked_right ≡ right) × (picked ≡ commits) → MaySplit rank.view right commits
       → (seat ≡ table) × (0 < table.words)
-          × Splits (IsRuled {S = Unit {0}} fits key) id view (remaining picked_right picked view)
-          (parted picked_right picked view)
+      × Splits (IsRuled {S = Unit {0}} fits key) id view (remaining picked_right picked view)
+      (parted picked_right picked view)
   split_call right commits picked_right picked of_window is may = (
     same_table of_window,
     some_words table key geometry sized,
     split_allowed fits key id view picked_right picked
         (subst (λ v. MaySplit v picked_right picked) (sym view_is)
-            (subst (λ r. MaySplit rank.view r picked) (sym is.0)
-            (subst (MaySplit rank.view right) (sym is.1) may))),
+        (subst (λ r. MaySplit rank.view r picked) (sym is.0)
+        (subst (MaySplit rank.view right) (sym is.1) may))),
   )
 
   pub join_call : (j : ℕ) (other : Me (Unit {0}) (View N)) (other_table : TableId)
       → view.rights ≢ [] → (rank.window ≡ window.id) × (other_table ≡ window.id)
       → (other.1 ≡ []) × IsIdle other.0
       → (seat ≡ table) × (other_table ≡ table) × (other.1 ≡ []) × (0 < table.words)
-          × Joins (IsRuled {S = Unit {0}} fits key) id view j other.0 (joined view other.0) spent
+      × Joins (IsRuled {S = Unit {0}} fits key) id view j other.0 (joined view other.0) spent
   join_call j other other_table live of_window idle = (
     same_table of_window.0,
     of_window.1 ∙ sym (ap (λ (w : WindowModel). w.id) window_is),

@@ -17,23 +17,23 @@ put-requires-clause-may g c = may_put _ _ c.requires.object c.requires.reserved 
 pub put-requires-2-clause-may : goal.put-requires-2-clause-may
 put-requires-2-clause-may g c =
     subst (λ v. MayPut v c.args.o) (sym c.put.ensures.view)
-        (may_put _ _ c.requires.object c.requires.reserved _ c.requires.rest _
-        (c.stamp_up.ensures.view
-        ∙ ap (stamped c.args.o)
-        (c.in_default.ensures.view
-        ∙ ap (λ v. tried (locked c.args.o Marked v)) c.in_ok-writer_try.ensures.view))
-        _ c.detach.ensures.view)
+    (may_put _ _ c.requires.object c.requires.reserved _ c.requires.rest _
+    (c.stamp_up.ensures.view
+    ∙ ap (stamped c.args.o)
+    (c.in_default.ensures.view
+    ∙ ap (λ v. tried (locked c.args.o Marked v)) c.in_ok-writer_try.ensures.view))
+    _ c.detach.ensures.view)
 
 pub put-requires-3-clause-may : goal.put-requires-3-clause-may
 put-requires-3-clause-may g c =
     subst (λ v. MayPut v c.args.o)
-        (sym (c.put-2.ensures.view ∙ ap (put_in c.args.o 1 c.args.first) c.put.ensures.view))
+    (sym (c.put-2.ensures.view ∙ ap (put_in c.args.o 1 c.args.first) c.put.ensures.view))
     (may_put _ _ c.requires.object c.requires.reserved _ c.requires.rest _
-        (c.stamp_up.ensures.view
-        ∙ ap (stamped c.args.o)
-        (c.in_default.ensures.view
-        ∙ ap (λ v. tried (locked c.args.o Marked v)) c.in_ok-writer_try.ensures.view))
-        _ c.detach.ensures.view)
+    (c.stamp_up.ensures.view
+    ∙ ap (stamped c.args.o)
+    (c.in_default.ensures.view
+    ∙ ap (λ v. tried (locked c.args.o Marked v)) c.in_ok-writer_try.ensures.view))
+    _ c.detach.ensures.view)
 
 pub attach-requires-clause-may : goal.attach-requires-clause-may
 attach-requires-clause-may g c =

@@ -6,4 +6,4 @@ use Rattle.fabric.proofs.rank.Rank.all_leave.Goals as goal
 pub fetch_sub-requires-clause-permits : goal.fetch_sub-requires-clause-permits
 fetch_sub-requires-clause-permits g c =
     following g.L.Law.fits _ _ _ _ _ (whole_leave_permitted g.L.Law.fits _ _ c.requires.whole)
-        (λ _ _ told. stays c.args.self.now.view _ _ told refl)
+    (λ _ _ told. stays c.args.self.now.view _ _ told refl)

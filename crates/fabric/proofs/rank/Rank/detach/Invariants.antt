@@ -5,5 +5,7 @@ use Rattle.fabric.proofs.rank.Rank.detach.Given as goal
 
 abbrev pub ghosts-store : goal.ghosts-store
 ghosts-store g a =
-    record { told = Following
-    (λ before _ after. Detaches a.window.now.shape (object_of a.word) before after) }
+    record {
+      told = Following
+          (λ before _ after. Detaches a.window.now.shape (object_of a.word) before after);
+    }

@@ -7,4 +7,4 @@ pub load-requires-clause-permits : goal.load-requires-clause-permits
 load-requires-clause-permits g c =
     truly_permitted g.L.Law.fits _ _ _ _ _
     (following g.L.Law.fits _ _ _ _ _
-        (length_permitted g.L.Law.fits _ _ _ c.requires.object c.requires.may) (measures_on _ _))
+    (length_permitted g.L.Law.fits _ _ _ c.requires.object c.requires.may) (measures_on _ _))

@@ -7,5 +7,5 @@ pub fetch_sub-requires-clause-permits : goal.fetch_sub-requires-clause-permits
 fetch_sub-requires-clause-permits g c =
     following g.L.Law.fits _ _ _ _ _
     (mark_leave_permitted g.L.Law.fits _ _ c.requires.object _ c.requires.marked c.requires.clean
-        c.requires.closed)
+    c.requires.closed)
     (λ _ _ told. stays c.args.self.now.view _ _ told refl)

@@ -7,4 +7,4 @@ pub load-requires-clause-permits : goal.load-requires-clause-permits
 load-requires-clause-permits g c =
     witnessed g.L.Law.fits _ _ _ _
     (truly_permitted g.L.Law.fits _ _ _ _ _
-        (following g.L.Law.fits _ _ _ _ _ (place_permitted g.L.Law.fits _ _) (places_on _)))
+    (following g.L.Law.fits _ _ _ _ _ (place_permitted g.L.Law.fits _ _) (places_on _)))

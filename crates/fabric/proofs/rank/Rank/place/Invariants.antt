@@ -7,5 +7,5 @@ abbrev pub ghosts-load : goal.ghosts-load
 ghosts-load g a = record {
   told = λ before found after.
       (Following Places before found after × IsTrueView g.L.Law.fits a.window.now.shape after)
-          × WasLawful g.L.Law.fits a.window.now.shape a.word found after;
+      × WasLawful g.L.Law.fits a.window.now.shape a.word found after;
 }

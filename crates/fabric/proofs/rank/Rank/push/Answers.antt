@@ -8,5 +8,5 @@ pub compare_exchange-found-requires-clause-permits :
 compare_exchange-found-requires-clause-permits g c =
     following g.L.Law.fits _ _ _ _ _
     (push_permitted_at g.L.Law.fits _ c.args.b c.rank.result c.block.result c.args.head _ _
-        c.requires.may c.rank.ensures c.block.ensures.value refl)
+    c.requires.may c.rank.ensures c.block.ensures.value refl)
     (λ found after told. exchanges_on _ _ _ _ found after _ told refl)

@@ -5,5 +5,7 @@ use Rattle.fabric.proofs.rank.Rank.put.Given as goal
 
 abbrev pub ghosts-store : goal.ghosts-store
 ghosts-store g a =
-    record { told = Following
-    (λ before new after. Puts (object_of a.word) (index_of a.word) before new after) }
+    record {
+      told = Following
+          (λ before new after. Puts (object_of a.word) (index_of a.word) before new after);
+    }

@@ -9,13 +9,13 @@ use Rattle.fabric.proofs.rank.Rank.share_try.Goals as goal
 pub fetch_add-word-requires-clause-permits : goal.fetch_add-word-requires-clause-permits
 fetch_add-word-requires-clause-permits g c =
     following g.L.Law.fits _ _ _ _ _
-        (share_permitted g.L.Law.fits _ _ c.requires.object _ c.requires.unlocked) (shares_on _ _ _)
+    (share_permitted g.L.Law.fits _ _ c.requires.object _ c.requires.unlocked) (shares_on _ _ _)
 
 pub fetch_sub-requires-clause-permits : goal.fetch_sub-requires-clause-permits
 fetch_sub-requires-clause-permits g c =
     following g.L.Law.fits _ _ _ _ _
     (share_return_permitted g.L.Law.fits _ _ c.requires.object _
     (ap (λ v. hold_of v.locks c.args.o)
-        (c.fetch_add-word.ensures.told.0.failed (c.conflicts.ensures.0 c.if-conflicts.true))
+    (c.fetch_add-word.ensures.told.0.failed (c.conflicts.ensures.0 c.if-conflicts.true))
     ∙ hold_of-with_same _ c.args.o Returning))
     (λ _ _ told. stays c.fetch_add-word.new.self.view _ _ told refl)

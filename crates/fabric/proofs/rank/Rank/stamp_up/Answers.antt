@@ -6,5 +6,5 @@ use Rattle.fabric.proofs.rank.Rank.stamp_up.Goals as goal
 pub fetch_add-requires-clause-permits : goal.fetch_add-requires-clause-permits
 fetch_add-requires-clause-permits g c =
     following g.L.Law.fits _ _ _ _ _
-        (stamp_permitted g.L.Law.fits _ _ _ c.requires.object c.requires.may)
-        (λ _ _ told. stays c.args.self.now.view _ _ told refl)
+    (stamp_permitted g.L.Law.fits _ _ _ c.requires.object c.requires.may)
+    (λ _ _ told. stays c.args.self.now.view _ _ told refl)

@@ -6,5 +6,5 @@ use Rattle.fabric.proofs.rank.Rank.writer_leave.Goals as goal
 pub fetch_sub-requires-clause-permits : goal.fetch_sub-requires-clause-permits
 fetch_sub-requires-clause-permits g c =
     following g.L.Law.fits _ _ _ _ _
-        (writer_leave_permitted g.L.Law.fits _ _ c.requires.writer c.requires.clean)
-        (λ _ _ told. stays c.args.self.now.view _ _ told refl)
+    (writer_leave_permitted g.L.Law.fits _ _ c.requires.writer c.requires.clean)
+    (λ _ _ told. stays c.args.self.now.view _ _ told refl)

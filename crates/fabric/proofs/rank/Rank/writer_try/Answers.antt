@@ -6,12 +6,12 @@ use Rattle.fabric.proofs.rank.Rank.writer_try.Goals as goal
 pub fetch_add-word-requires-clause-permits : goal.fetch_add-word-requires-clause-permits
 fetch_add-word-requires-clause-permits g c =
     following g.L.Law.fits _ _ _ _ _ (writer_permitted g.L.Law.fits _ _ c.requires.outside)
-        (enters_as_writer_on _ _)
+    (enters_as_writer_on _ _)
 
 pub fetch_sub-requires-clause-permits : goal.fetch_sub-requires-clause-permits
 fetch_sub-requires-clause-permits g c =
     following g.L.Law.fits _ _ _ _ _
     (writer_return_permitted g.L.Law.fits _ _
-        (ap (λ v. v.gate)
-        (c.fetch_add-word.ensures.told.0.failed (c.conflicts.ensures.0 c.if-conflicts.true))))
+    (ap (λ v. v.gate)
+    (c.fetch_add-word.ensures.told.0.failed (c.conflicts.ensures.0 c.if-conflicts.true))))
     (λ _ _ told. stays c.fetch_add-word.new.self.view _ _ told refl)

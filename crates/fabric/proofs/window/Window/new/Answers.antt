@@ -5,8 +5,8 @@ use Rattle.fabric.proofs.window.Window.new.Goals as goal
 pub of_words-requires : goal.of_words-requires
 of_words-requires g c =
     rw c.as_slice.ensures.value
-        (opening_is_lawful g.L.Law.fits c.args.geometry _ c.keeps_ranges.ensures
-        c.in_ok-words.ensures)
+    (opening_is_lawful g.L.Law.fits c.args.geometry _ c.keeps_ranges.ensures
+    c.in_ok-words.ensures)
 
 pub seated-requires-clause-live : goal.seated-requires-clause-live
 seated-requires-clause-live g c = first_is_live c.args.geometry _ c.keeps_ranges.ensures
