@@ -1,9 +1,14 @@
+ghost use Rattle.std.specs.Prelude.{◌≡◌, ◌≤◌, ◌<◌, ◌^◌};
+ghost use Rattle.rma_layout.specs.Placement.{IsBlock, IsReserved};
+ghost use Rattle.window_rule.specs.Pairs.{IsAtRest};
+
 use crate::examples::{read_pair, write_pair};
 use crate::{Rank, Window};
 use object_words::{Carries, Law};
 use rma_layout::{DPtr, Geometry, Word};
 use std::alloc::Global;
 use std::test::Fail;
+use std::thread::join_mut;
 
 /// A law that every entry satisfies.
 struct Anything;
@@ -106,5 +111,60 @@ fn ranks_are_refused_for_one_another(rt: HostRuntime) -> Result<(), Fail> {
 
     one.join(&window, other);
     assert_eq!(rt; one.place(&window), 0);
+    Ok(())
+}
+
+/// Writes pairs of equal words, and answers how many it has committed.
+fn write_often(rank: &mut Rank<Anything>, window: &Window<Anything>, o: DPtr, times: u64) -> u64
+    requires window { rank.old.window ≡ window.now.id }
+    requires object { IsBlock window.now.shape o }
+    requires reserved { IsReserved window.now.shape o.block }
+    requires wide { 4 < window.now.shape.words }
+    requires rest { IsAtRest rank.old.view }
+    requires allowed { times ≤ rank.old.view.allowance }
+    ensures window { rank.new.window ≡ rank.old.window }
+    ensures rest { IsAtRest rank.new.view }
+    ensures few { result ≤ times }
+{
+    let mut written = 0;
+    for k in 0..times {
+        if write_pair(rank, window, o, k, k, &NoNote).is_ok() {
+            written += 1;
+        }
+    }
+    written
+}
+
+/// Reads pairs, and answers whether the two words of each that it could read were equal.
+fn read_often(rank: &mut Rank<Anything>, window: &Window<Anything>, o: DPtr, times: u64) -> bool
+    requires window { rank.old.window ≡ window.now.id }
+    requires object { IsBlock window.now.shape o }
+    requires reserved { IsReserved window.now.shape o.block }
+    requires wide { 4 < window.now.shape.words }
+    requires rest { IsAtRest rank.old.view }
+    ensures window { rank.new.window ≡ rank.old.window }
+    ensures rest { IsAtRest rank.new.view }
+{
+    let mut whole = true;
+    for _ in 0..times {
+        if let Ok(Some((first, second))) = read_pair(rank, window, o) {
+            whole = whole && first == second;
+        }
+    }
+    whole
+}
+
+#[test]
+fn pairs_are_read_whole_while_another_rank_writes(rt: HostRuntime) -> Result<(), Fail> {
+    let (window, mut one) = Window::<Anything>::new(rt.alloc(), Geometry::new(2, 8, 8, 2, 2)?)?;
+    let mut other = one.split(&window, 1, 200_000);
+    let o = DPtr::new(1, 2);
+    let (written, whole) = join_mut(
+        &rt,
+        &mut || write_often(&mut other, &window, o, 100_000),
+        &mut || read_often(&mut one, &window, o, 100_000),
+    );
+    assert!(rt; whole, "a pair was read in the middle of its writing");
+    assert_eq!(rt; one.place(&window), written);
     Ok(())
 }

@@ -450,6 +450,12 @@ module _ {N : Type 0} (shape : Shape) (object : Place) (block : IsBlock shape ob
             is_next = record {
               history = told_entry.history;
               goes_on = subst (λ l. IsPrefix l told_entry.history) same_seen told_entry.goes_on;
+              allowance =
+                  let left_now : out.allowance ≡ attached.allowance - 1 =
+                  ap (λ v. v.allowance) is_out
+                  ∙ (ap (λ v. v.allowance) is_left
+                  ∙ (ap (λ v. v.allowance) is_closed ∙ ap (λ v. v.allowance) told_entry.view)) in
+                  omega (arith, same_allowance, allowed);
               number_is = told_entry.found_is;
               seen =
                   ap (λ v. v.seen) is_out

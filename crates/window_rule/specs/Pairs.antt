@@ -1,5 +1,5 @@
 -- A worked transaction: two words are written into an object, and read.
-use Rattle.std.specs.Prelude.{◌≡◌, ℕ, List, [], ◌∷◌, ◌++◌, length, Option, Some, None}
+use Rattle.std.specs.Prelude.{◌≡◌, ℕ, ◌+◌, List, [], ◌∷◌, ◌++◌, length, Option, Some, None}
 use mathlib.Core.List.{IsPrefix}
 use Rattle.rma_layout.specs.Placement.{Place}
 use Rattle.object_words.specs.Contents.{Contents}
@@ -29,6 +29,8 @@ pub record IsNext {N : Type 0} (entry : Entry N) (before after : View N) (number
   pub goes_on : IsPrefix before.seen history
   pub number_is : number ≡ length history
   pub seen : after.seen ≡ history ++ entry ∷ []
+  -- it may make one commit less
+  pub allowance : after.allowance + 1 ≡ before.allowance
 
 -- the two words of an object that has just two
 abbrev pub pair_of : List ℕ → Option (ℕ × ℕ)

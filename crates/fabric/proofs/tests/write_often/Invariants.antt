@@ -1,0 +1,7 @@
+use Rattle.std.proofs.Common.{◌≡◌, ◌≤◌, ◌+◌}
+use Rattle.window_rule.specs.Pairs.{IsAtRest}
+use Rattle.fabric.proofs.tests.write_often.Given as goal
+
+abbrev pub invariant-loop-k : goal.invariant-loop-k
+invariant-loop-k l =
+    (l.rank.window ≡ l.window.id) × IsAtRest l.rank.view × (l.times ≤ l.rank.view.allowance + l.k) × (l.written ≤ l.k)
