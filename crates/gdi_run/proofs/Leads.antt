@@ -16,7 +16,7 @@ use Rattle.gdi_run.specs.declared.token.Token.TheVariants as token
 use Rattle.gdi_run.specs.declared.reader.Reader.{Reader}
 use Rattle.gdi_run.specs.declared.reader.Stage.{Stage}
 use Rattle.gdi_run.specs.declared.reader.Stage.TheVariants.{Start, InSection, InTxn}
-use Rattle.gdi_run.specs.ScriptText.{lines_of_txn, lines_of_script, line_of_call, MayHold, vertex_calls, IsPlainTxn, IsPlainScript}
+use Rattle.gdi_run.specs.ScriptText.{lines_of_txn, lines_of_script, line_of_call, MayHold, vertex_calls, IsPlainTxn, IsBareScript}
 use Rattle.gdi_run.specs.Tokens.{IsToken}
 use Rattle.gdi_run.specs.Reading.{plain_txn, with_token, script_at}
 use Rattle.gdi_run.proofs.TokenOf.{section_only, txn_only, end_only, vertex_only, has_only}
@@ -58,18 +58,18 @@ by_calls txn plain = ap (λ (whole : Bool). record { whole = whole; calls = txn.
 
 -- ---- each stage
 
-in_start : (reader : Reader) (line : List ℕ) (rest : List (List ℕ)) (script : List (List Txn)) (t : Token) → IsPlainScript script → IsToken line t → line ∷ rest ≡ lines_of_script script → reader.section ≡ [] → (t ≡ token.Section) × RestOfSection (record reader { stage = InSection }) rest script
+in_start : (reader : Reader) (line : List ℕ) (rest : List (List ℕ)) (script : List (List Txn)) (t : Token) → IsBareScript script → IsToken line t → line ∷ rest ≡ lines_of_script script → reader.section ≡ [] → (t ≡ token.Section) × RestOfSection (record reader { stage = InSection }) rest script
 in_start reader line rest [] t plain is lines none = absurd cc
 in_start reader line rest (txns ∷ []) t plain is lines none =
     let same = same_lines _ _ _ _ lines in
     (section_only t (subst (λ (l : List ℕ). IsToken l t) same.0 is), record { txns = txns; whole = rw none refl; rest = same.1 ∙ append-nil (flat_map lines_of_txn txns) })
 in_start reader line rest (txns ∷ more ∷ script) t plain is lines none = absurd (omega (arith, plain.one_section))
 
-in_section : (reader : Reader) (line : List ℕ) (rest : List (List ℕ)) (script : List (List Txn)) (t : Token) (txns : List Txn) → IsPlainScript script → IsToken line t → script ≡ (reader.section ++ txns) ∷ [] → line ∷ rest ≡ flat_map lines_of_txn txns → reader.calls ≡ [] → (t ≡ token.Txn) × (length reader.section < 1048576) × RestOfTxn (record reader { stage = InTxn }) rest script
+in_section : (reader : Reader) (line : List ℕ) (rest : List (List ℕ)) (script : List (List Txn)) (t : Token) (txns : List Txn) → IsBareScript script → IsToken line t → script ≡ (reader.section ++ txns) ∷ [] → line ∷ rest ≡ flat_map lines_of_txn txns → reader.calls ≡ [] → (t ≡ token.Txn) × (length reader.section < 1048576) × RestOfTxn (record reader { stage = InTxn }) rest script
 in_section reader line rest script t [] plain is whole lines none = absurd cc
 in_section reader line rest script t (txn ∷ txns) plain is whole lines none =
     let same = same_lines _ _ _ _ lines in
-    let one : IsPlainScript ((reader.section ++ txn ∷ txns) ∷ []) = subst IsPlainScript whole plain in
+    let one : IsBareScript ((reader.section ++ txn ∷ txns) ∷ []) = subst IsBareScript whole plain in
     let spelled : txn ≡ plain_txn (reader.calls ++ txn.calls) = rw none (by_calls txn (all_at IsPlainTxn reader.section txn txns one.txns.0)) in (
       txn_only t (subst (λ (l : List ℕ). IsToken l t) same.0 is),
       omega (arith, one.few_txns, length-append reader.section (txn ∷ txns)),
@@ -93,7 +93,7 @@ record Fits (section : List Txn) (calls : List Call) (c : Call) : Type 0 where
   few_calls : length calls < 65536
   few_vertices : sum_by vertex_calls section + count_by is_vertex_call calls + cond (is_vertex_call c) 1 0 ≤ 500
 
-call_fits : (section : List Txn) (calls : List Call) (c : Call) (more : List Call) (txns : List Txn) → IsPlainScript ((section ++ plain_txn (calls ++ c ∷ more) ∷ txns) ∷ []) → Fits section calls c
+call_fits : (section : List Txn) (calls : List Call) (c : Call) (more : List Call) (txns : List Txn) → IsBareScript ((section ++ plain_txn (calls ++ c ∷ more) ∷ txns) ∷ []) → Fits section calls c
 call_fits section calls c more txns plain =
     let txn = plain_txn (calls ++ c ∷ more) in
     let here = all_at IsPlainTxn section txn txns plain.txns.0 in
@@ -121,13 +121,13 @@ has_leads : (section : List Txn) (calls : List Call) (vertices id : ℕ) (t : To
 has_leads section calls vertices id t rest script fits is leads =
     rw (has_only id fits.may t is, lt-ltb (length calls) 65536 fits.few_calls) leads
 
-in_txn : (section : List Txn) (calls : List Call) (vertices : ℕ) (line : List ℕ) (rest : List (List ℕ)) (script : List (List Txn)) (t : Token) (left : List Call) (txns : List Txn) → IsPlainScript script → IsToken line t → vertices ≡ sum_by vertex_calls section + count_by is_vertex_call calls → script ≡ (section ++ plain_txn (calls ++ left) ∷ txns) ∷ [] → line ∷ rest ≡ (map line_of_call left ++ codes "end" ∷ []) ++ flat_map lines_of_txn txns → LeadsOn (with_token (at InTxn section calls vertices) t) rest script
+in_txn : (section : List Txn) (calls : List Call) (vertices : ℕ) (line : List ℕ) (rest : List (List ℕ)) (script : List (List Txn)) (t : Token) (left : List Call) (txns : List Txn) → IsBareScript script → IsToken line t → vertices ≡ sum_by vertex_calls section + count_by is_vertex_call calls → script ≡ (section ++ plain_txn (calls ++ left) ∷ txns) ∷ [] → line ∷ rest ≡ (map line_of_call left ++ codes "end" ∷ []) ++ flat_map lines_of_txn txns → LeadsOn (with_token (at InTxn section calls vertices) t) rest script
 in_txn section calls vertices line rest script t [] txns plain is count whole lines =
     let end = at_end section calls vertices line rest script t txns is whole lines in
     rw end.0 end.1
 in_txn section calls vertices line rest script t (c ∷ left) txns plain is count whole lines =
     let same = same_lines _ _ _ _ lines in
-    let fits = call_fits section calls c left txns (subst IsPlainScript whole plain) in
+    let fits = call_fits section calls c left txns (subst IsBareScript whole plain) in
     let now : IsToken (line_of_call c) t = subst (λ (l : List ℕ). IsToken l t) same.0 is in
     let next : (n : ℕ) → RestOfTxn (at InTxn section (calls ++ c ∷ []) n) rest script = λ n. record { calls = left; txns = txns; whole = whole ∙ rw append_assoc refl; rest = same.1 } in
     elim (held c fits.may) [
@@ -141,7 +141,7 @@ no_end (c ∷ calls) txns same = cc same
 
 -- ---- all stages
 
-stage_leads : (stage : Stage) (section : List Txn) (calls : List Call) (vertices : ℕ) (line : List ℕ) (rest : List (List ℕ)) (script : List (List Txn)) (t : Token) → IsPlainScript script → IsToken line t → IsReading (at stage section calls vertices) → Leads stage (at stage section calls vertices) (line ∷ rest) script → LeadsOn (with_token (at stage section calls vertices) t) rest script
+stage_leads : (stage : Stage) (section : List Txn) (calls : List Call) (vertices : ℕ) (line : List ℕ) (rest : List (List ℕ)) (script : List (List Txn)) (t : Token) → IsBareScript script → IsToken line t → IsReading (at stage section calls vertices) → Leads stage (at stage section calls vertices) (line ∷ rest) script → LeadsOn (with_token (at stage section calls vertices) t) rest script
 stage_leads Start section calls vertices line rest script t plain is was leads =
     let on = in_start (at Start section calls vertices) line rest script t plain is leads was.fresh.0 in
     rw on.0 on.1
@@ -151,7 +151,7 @@ stage_leads InSection section calls vertices line rest script t plain is was lea
 stage_leads InTxn section calls vertices line rest script t plain is was leads =
     in_txn section calls vertices line rest script t leads.calls leads.txns plain is was.vertices leads.whole leads.rest
 
-pub leads_on : (reader : Reader) (line : List ℕ) (rest : List (List ℕ)) (script : List (List Txn)) (t : Token) → IsPlainScript script → IsToken line t → IsReading reader → Leads reader.stage reader (line ∷ rest) script → IsSomeAnd (with_token reader t) (λ after. Leads after.stage after rest script)
+pub leads_on : (reader : Reader) (line : List ℕ) (rest : List (List ℕ)) (script : List (List Txn)) (t : Token) → IsBareScript script → IsToken line t → IsReading reader → Leads reader.stage reader (line ∷ rest) script → IsSomeAnd (with_token reader t) (λ after. Leads after.stage after rest script)
 leads_on reader line rest script t plain is was leads = stage_leads reader.stage reader.section reader.calls reader.vertices line rest script t plain is was leads
 
 -- at the end of a spelled script no transaction is open

@@ -20,7 +20,7 @@ use Rattle.graph_model.specs.LegalRun.{IsLegalRun}
 use Rattle.graph_model.proofs.VertexSteps.{is_bucket_full}
 use Rattle.graph_model.proofs.Bare.{ids_after_calls, reply_by_ids, graph_after_calls-bare, replies_to_calls-bare, length-after_calls}
 use Rattle.graph_model.proofs.Room.{full_rank-default}
-use Rattle.gdi_run.specs.ScriptText.{IsPlainTxn, IsPlainScript, MayHold, vertex_calls}
+use Rattle.gdi_run.specs.ScriptText.{IsPlainTxn, IsBareScript, MayHold, vertex_calls}
 use Rattle.gdi_run.specs.OutputText.{IsOneWord, HasWords}
 use Rattle.gdi_run.specs.Serial.{ends, entries_after, serial_lines, serial_writes, next_entries}
 use Rattle.gdi_run.proofs.SerialIsLegal.{Fits, entries_rise, serial_is_legal}
@@ -109,7 +109,7 @@ plain-sections : (n : ℕ) (sections : List (List Txn)) → AllByRecursion (AllB
 plain-sections n [] h = tt
 plain-sections n (ts ∷ sections) h = all-append _ (placed_from n 1 ts) _ (plain-placed n 1 ts h.0) (plain-sections (n + 1) sections h.1)
 
-whole_run : (script : List (List Txn)) → IsPlainScript script → FitsAndWords [] 0 (transactions_of script)
+whole_run : (script : List (List Txn)) → IsBareScript script → FitsAndWords [] 0 (transactions_of script)
 whole_run script plain = plain_run [] 0 (transactions_of script) (plain-sections 1 script plain.txns) (omega (arith, vertices_in-sections 1 script, plain.few_vertices))
 
 -- ---- what a loop over the sections leaves
@@ -137,12 +137,12 @@ most_writes k [] = omega arith
 most_writes k (p ∷ ps) = omega (arith, most_writes (next_entries k p.txn) ps, one_at_most p.txn.aborts (is_writing p.txn) k)
 
 -- the entries so far are no more than the transactions of the script
-pub few_writes : (script : List (List Txn)) (writes i : ℕ) → IsPlainScript script → i < length script
+pub few_writes : (script : List (List Txn)) (writes i : ℕ) → IsBareScript script → i < length script
     → serial_writes writes (sections_from (i + 1) (drop i script)) ≡ serial_writes 0 (transactions_of script) → writes + length (get_or script i []) ≤ 2097152
 few_writes script writes i plain lt same =
     omega (arith, plain.few_txns, same, least_writes writes (sections_from (i + 1) (drop i script)), most_writes 0 (transactions_of script), length-sections 1 script, get_or-le-sum_by length script i [] lt)
 
-pub plain_is_legal : (script : List (List Txn)) (lines : List Line) (g : Graph) (writes i : ℕ) → IsPlainScript script → length script ≤ i
+pub plain_is_legal : (script : List (List Txn)) (lines : List Line) (g : Graph) (writes i : ℕ) → IsBareScript script → length script ≤ i
     → lines ++ serial_lines standard_shape g writes (sections_from (i + 1) (drop i script)) ≡ serial_lines standard_shape empty_graph 0 (transactions_of script)
     → serial_writes writes (sections_from (i + 1) (drop i script)) ≡ serial_writes 0 (transactions_of script)
     → IsLegalRun standard_shape [] script (record { lines = lines; writes = writes }) × AllByRecursion HasWords lines

@@ -59,7 +59,7 @@ pub record IsPlainTxn (txn : Txn) : Type 0 where
 
 -- Whether a script is of the form that is read so far: one section at most, with transactions of `vertex` and `has`,
 -- within the limits, and with 500 `vertex` at most.
-pub record IsPlainScript (sections : List (List Txn)) : Type 0 where
+pub record IsBareScript (sections : List (List Txn)) : Type 0 where
   pub one_section : length sections ≤ 1
   pub few_txns : sum_by length sections ≤ 1048576
   pub txns : AllByRecursion (AllByRecursion IsPlainTxn) sections
@@ -67,5 +67,5 @@ pub record IsPlainScript (sections : List (List Txn)) : Type 0 where
 
 -- the bytes spell the script
 pub record Spells (bytes : List ℕ) (sections : List (List Txn)) : Type 0 where
-  pub form : IsPlainScript sections
+  pub form : IsBareScript sections
   pub lines : counted_lines bytes ≡ lines_of_script sections

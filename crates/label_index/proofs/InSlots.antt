@@ -26,10 +26,10 @@ use Rattle.held_objects.specs.Knows.{Knows}
 use Rattle.held_objects.specs.Held.{IsSpelled, FindsHolder}
 use Rattle.held_objects.proofs.Knows.{before, knows_after, still}
 use Rattle.rising_lists.proofs.Rising.{length-with_item}
-use Rattle.label_index.specs.Entries.{Pair, pair_of, pair_cmp, is_pair, entry_for, with_entry, without_entry, slot_for, entries_in}
+use Rattle.label_index.specs.Entries.{Pair, pair_of, pair_cmp, is_pair, entry_for, with_pair, without_pair, slot_for, entries_in}
 use Rattle.label_index.specs.Index.{IsIndexed, takes_one_more, Indexes, Lacks, Has, WhereverIndexed, StaysKnown, Adds, Removes, FindsSlot}
 use Rattle.label_index.proofs.Keys.{equal_is, pair_apart, pair_itself, pair_same, tied_pair}
-use Rattle.label_index.proofs.Slots.{slot_with_entry, other_with_entry, slot_without_entry, other_without_entry, entry_in_slot, entry_for-with, entry_for-without, holder_in, holder-with_entry, holder-without_entry, index_same, slot_is, index_fixes_entries}
+use Rattle.label_index.proofs.Slots.{slot_with_entry, other_with_entry, slot_without_entry, other_without_entry, entry_in_slot, entry_for-with, entry_for-without, holder_in, holder-with_pair, holder-without_pair, index_same, slot_is, index_fixes_entries}
 use Rattle.label_index.proofs.Knows.{lacks_indexes, has_indexes, still_known}
 
 -- ---- a slot is written
@@ -64,10 +64,10 @@ indexed_after shape contents writes entries changed pair words ordered indexed r
 
 -- the words of a slot that takes one more are few enough
 pub few_with : (index : IndexHolder) (entry : IndexEntry) → not (is_too_large (2 * (length index.entries + 1))) ≡ true
-    → length (index_words (record { entries = with_entry entry index.entries })) ≤ most_words
+    → length (index_words (record { entries = with_pair entry index.entries })) ≤ most_words
 few_with index entry takes =
     let room : 2 * (length index.entries + 1) ≤ most_words = grind (arith, nat_tests) in
-    omega (arith, room, length-pairs (with_entry entry index.entries), length-with_item pair_of pair_cmp entry index.entries)
+    omega (arith, room, length-pairs (with_pair entry index.entries), length-with_item pair_of pair_cmp entry index.entries)
 
 pub few_made : {made other : IndexHolder} → made ≡ other → length (index_words other) ≤ most_words → length (index_words made) ≤ most_words
 few_made is few = subst (λ b. length (index_words b) ≤ most_words) (sym is) few
@@ -130,13 +130,13 @@ module _ {N : Type 0} {entry : IndexEntry} {old mid : StoreState N} {index : Ind
       let is = absent.always (committed mid) may_have_been in
       ap (λ es. entry_for es pair) (now_entries is.entries is.indexed) ∙ (entry_in_slot old.shape is.entries pair ∙ is.absent)
 
-  pub few_left : Knows (Has pair) old → length (index_words (record { entries = without_entry pair index.entries })) ≤ most_words
+  pub few_left : Knows (Has pair) old → length (index_words (record { entries = without_pair pair index.entries })) ≤ most_words
   few_left present =
       let is = present.always (committed mid) may_have_been in
       let place = slot_for old.shape pair in
       let words = is.indexed.slots place (slot_is old.shape pair read.found.ranges) ∙ ap (λ es. index_words (record { entries = es })) (sym (now_entries is.entries is.indexed)) in
       let all : length (index_words index) ≤ most_words = subst (λ ws. length ws ≤ most_words) words (is.indexed.within place (slot_is old.shape pair read.found.ranges)) in
-      omega (arith, all, length-pairs index.entries, length-pairs (without_entry pair index.entries), length-filter-le (λ one. not (is_pair pair (pair_of one))) index.entries)
+      omega (arith, all, length-pairs index.entries, length-pairs (without_pair pair index.entries), length-filter-le (λ one. not (is_pair pair (pair_of one))) index.entries)
 
   -- where the slot's new words are written
   module _ {new : StoreState N} (made : IndexHolder) (wrote : WritesObject (slot_for mid.shape pair) (index_words made) mid new) (stays : StaysBegun mid new) where
@@ -156,21 +156,21 @@ module _ {N : Type 0} {entry : IndexEntry} {old mid : StoreState N} {index : Ind
     same_entries : (store : Contents) (one other : List IndexEntry) → IsIndexed old.shape (overlay store old.writes) one → IsIndexed old.shape (overlay store old.writes) other → one ≡ other
     same_entries store one other = index_fixes_entries old.shape (overlay store old.writes) one other read.found.ranges
 
-    module _ (fits : IndexEntryFits entry) (room : Room true) (is : made ≡ (record { entries = with_entry entry index.entries })) (absent : Knows (Lacks pair) old) where
+    module _ (fits : IndexEntryFits entry) (room : Room true) (is : made ≡ (record { entries = with_pair entry index.entries })) (absent : Knows (Lacks pair) old) where
       indexed_with : (store : Contents) (entries : List IndexEntry) → Agrees mid.reads store → IsIndexed old.shape (overlay store old.writes) entries
-          → IsIndexed old.shape (overlay store new.writes) (with_entry entry entries)
+          → IsIndexed old.shape (overlay store new.writes) (with_pair entry entries)
       indexed_with store entries agrees indexed =
-          let more = holder-with_entry entry entries fits (record { rising = indexed.rising; each = indexed.each }) in
-          subst (λ (w : Contents). IsIndexed old.shape (overlay store w) (with_entry entry entries)) (sym writes_are)
-          (indexed_after old.shape store old.writes entries (with_entry entry entries) pair (index_words made) read.found.in_order indexed more.rising more.each
-          (ap index_words is ∙ ap (λ es. index_words (record { entries = es })) (ap (with_entry entry) (read.entries store entries agrees indexed) ∙ sym (slot_with_entry old.shape entries entry indexed.rising)))
+          let more = holder-with_pair entry entries fits (record { rising = indexed.rising; each = indexed.each }) in
+          subst (λ (w : Contents). IsIndexed old.shape (overlay store w) (with_pair entry entries)) (sym writes_are)
+          (indexed_after old.shape store old.writes entries (with_pair entry entries) pair (index_words made) read.found.in_order indexed more.rising more.each
+          (ap index_words is ∙ ap (λ es. index_words (record { entries = es })) (ap (with_pair entry) (read.entries store entries agrees indexed) ∙ sym (slot_with_entry old.shape entries entry indexed.rising)))
           (λ place apart. other_with_entry old.shape entries entry place indexed.rising apart) (few_made is (few_with index entry room)))
 
       has_it : Knows (Has pair) new
       has_it = known_then (λ store may agrees.
           let was = absent.always store may in
           record {
-            entries = with_entry entry was.entries;
+            entries = with_pair entry was.entries;
             indexed = indexed_with store was.entries agrees was.indexed;
             present = ap is_some (entry_for-with was.entries entry pair ∙ ap (λ b. cond b (Some entry) (entry_for was.entries pair)) (tied_pair pair));
           })
@@ -182,7 +182,7 @@ module _ {N : Type 0} {entry : IndexEntry} {old mid : StoreState N} {index : Ind
           cases true tie = absurd (apart (pair_same other pair (equal_is (pair_cmp other pair) tie)))
           cases false tie = refl
 
-      left : (entries : List IndexEntry) (other : Pair) → other ≢ pair → entry_for (with_entry entry entries) other ≡ entry_for entries other
+      left : (entries : List IndexEntry) (other : Pair) → other ≢ pair → entry_for (with_pair entry entries) other ≡ entry_for entries other
       left entries other apart = entry_for-with entries entry other ∙ ap (λ b. cond b (Some entry) (entry_for entries other)) (untied other apart)
 
       pub adds : Adds entry old new true
@@ -195,33 +195,33 @@ module _ {N : Type 0} {entry : IndexEntry} {old mid : StoreState N} {index : Ind
         others = record {
           lacks = λ other apart knows. known_then (λ store may agrees.
               let was = knows.always store may in
-              record { entries = with_entry entry was.entries; indexed = indexed_with store was.entries agrees was.indexed; absent = left was.entries other apart ∙ was.absent });
+              record { entries = with_pair entry was.entries; indexed = indexed_with store was.entries agrees was.indexed; absent = left was.entries other apart ∙ was.absent });
           has = λ other apart knows. known_then (λ store may agrees.
               let was = knows.always store may in
-              record { entries = with_entry entry was.entries; indexed = indexed_with store was.entries agrees was.indexed; present = subst IsSome (sym (left was.entries other apart)) was.present });
+              record { entries = with_pair entry was.entries; indexed = indexed_with store was.entries agrees was.indexed; present = subst IsSome (sym (left was.entries other apart)) was.present });
         };
       }
 
-    module _ (is : made ≡ (record { entries = without_entry pair index.entries })) (present : Knows (Has pair) old) where
+    module _ (is : made ≡ (record { entries = without_pair pair index.entries })) (present : Knows (Has pair) old) where
       indexed_without : (store : Contents) (entries : List IndexEntry) → Agrees mid.reads store → IsIndexed old.shape (overlay store old.writes) entries
-          → IsIndexed old.shape (overlay store new.writes) (without_entry pair entries)
+          → IsIndexed old.shape (overlay store new.writes) (without_pair pair entries)
       indexed_without store entries agrees indexed =
-          let less = holder-without_entry pair entries (record { rising = indexed.rising; each = indexed.each }) in
-          subst (λ (w : Contents). IsIndexed old.shape (overlay store w) (without_entry pair entries)) (sym writes_are)
-          (indexed_after old.shape store old.writes entries (without_entry pair entries) pair (index_words made) read.found.in_order indexed less.rising less.each
-          (ap index_words is ∙ ap (λ es. index_words (record { entries = es })) (ap (without_entry pair) (read.entries store entries agrees indexed) ∙ sym (slot_without_entry old.shape entries pair (slot_for old.shape pair))))
+          let less = holder-without_pair pair entries (record { rising = indexed.rising; each = indexed.each }) in
+          subst (λ (w : Contents). IsIndexed old.shape (overlay store w) (without_pair pair entries)) (sym writes_are)
+          (indexed_after old.shape store old.writes entries (without_pair pair entries) pair (index_words made) read.found.in_order indexed less.rising less.each
+          (ap index_words is ∙ ap (λ es. index_words (record { entries = es })) (ap (without_pair pair) (read.entries store entries agrees indexed) ∙ sym (slot_without_entry old.shape entries pair (slot_for old.shape pair))))
           (λ place apart. other_without_entry old.shape entries pair place apart) (few_made is (few_left present)))
 
       lacks_it : Knows (Lacks pair) new
       lacks_it = known_then (λ store may agrees.
           let was = present.always store may in
           record {
-            entries = without_entry pair was.entries;
+            entries = without_pair pair was.entries;
             indexed = indexed_without store was.entries agrees was.indexed;
             absent = entry_for-without was.entries pair pair ∙ ap (λ b. cond (not b) (entry_for was.entries pair) None) (pair_itself pair);
           })
 
-      left_out : (entries : List IndexEntry) (other : Pair) → other ≢ pair → entry_for (without_entry pair entries) other ≡ entry_for entries other
+      left_out : (entries : List IndexEntry) (other : Pair) → other ≢ pair → entry_for (without_pair pair entries) other ≡ entry_for entries other
       left_out entries other apart = entry_for-without entries pair other ∙ ap (λ b. cond (not b) (entry_for entries other) None) (pair_apart pair other apart)
 
       pub removes : Removes pair old new
@@ -232,9 +232,9 @@ module _ {N : Type 0} {entry : IndexEntry} {old mid : StoreState N} {index : Ind
         others = record {
           lacks = λ other apart knows. known_then (λ store may agrees.
               let was = knows.always store may in
-              record { entries = without_entry pair was.entries; indexed = indexed_without store was.entries agrees was.indexed; absent = left_out was.entries other apart ∙ was.absent });
+              record { entries = without_pair pair was.entries; indexed = indexed_without store was.entries agrees was.indexed; absent = left_out was.entries other apart ∙ was.absent });
           has = λ other apart knows. known_then (λ store may agrees.
               let was = knows.always store may in
-              record { entries = without_entry pair was.entries; indexed = indexed_without store was.entries agrees was.indexed; present = subst IsSome (sym (left_out was.entries other apart)) was.present });
+              record { entries = without_pair pair was.entries; indexed = indexed_without store was.entries agrees was.indexed; present = subst IsSome (sym (left_out was.entries other apart)) was.present });
         };
       }

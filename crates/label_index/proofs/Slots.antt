@@ -21,7 +21,7 @@ use Rattle.holder_codec.proofs.Indexes.{index_again}
 use Rattle.rising_lists.specs.Rising.{by_key}
 use Rattle.rising_lists.proofs.Rising.{sorted, same_items, item_of-where, item_of-with_item, is_rising-with_item, is_rising-where, All-with_item}
 use Rattle.rising_lists.proofs.Chosen.{chosen-with_item, chosen-with_item_other, chosen-chosen, chosen-swap}
-use Rattle.label_index.specs.Entries.{Pair, pair_of, pair_cmp, is_pair, entry_for, with_entry, without_entry, slot_for, entries_in}
+use Rattle.label_index.specs.Entries.{Pair, pair_of, pair_cmp, is_pair, entry_for, with_pair, without_pair, slot_for, entries_in}
 use Rattle.label_index.specs.Index.{IsIndexed}
 use Rattle.label_index.proofs.Keys.{pair_total, pair_same, before_is, pair_is}
 
@@ -49,19 +49,19 @@ same_not one other apart = cases (same_place one other) refl
 -- ---- one entry more or less
 
 pub slot_with_entry : (shape : Shape) (entries : List IndexEntry) (entry : IndexEntry) → is_rising is_pair_before entries ≡ true
-    → entries_in shape (with_entry entry entries) (slot_for shape (pair_of entry)) ≡ with_entry entry (entries_in shape entries (slot_for shape (pair_of entry)))
+    → entries_in shape (with_pair entry entries) (slot_for shape (pair_of entry)) ≡ with_pair entry (entries_in shape entries (slot_for shape (pair_of entry)))
 slot_with_entry shape entries entry rising =
     chosen-with_item pair_of pair_total pair_same (belongs shape (slot_for shape (pair_of entry))) entry entries (sorted_of entries rising) (same_itself (slot_for shape (pair_of entry)))
 
 pub other_with_entry : (shape : Shape) (entries : List IndexEntry) (entry : IndexEntry) (place : Place) → is_rising is_pair_before entries ≡ true → ¬ (place ≡ slot_for shape (pair_of entry))
-    → entries_in shape (with_entry entry entries) place ≡ entries_in shape entries place
+    → entries_in shape (with_pair entry entries) place ≡ entries_in shape entries place
 other_with_entry shape entries entry place rising apart =
     chosen-with_item_other pair_of pair_total pair_same (belongs shape place) entry entries (sorted_of entries rising) (same_not (slot_for shape (pair_of entry)) place apart)
 
-pub slot_without_entry : (shape : Shape) (entries : List IndexEntry) (pair : Pair) (place : Place) → entries_in shape (without_entry pair entries) place ≡ without_entry pair (entries_in shape entries place)
+pub slot_without_entry : (shape : Shape) (entries : List IndexEntry) (pair : Pair) (place : Place) → entries_in shape (without_pair pair entries) place ≡ without_pair pair (entries_in shape entries place)
 slot_without_entry shape entries pair place = chosen-swap (λ entry. belongs shape place (pair_of entry)) (λ entry. not (is_pair pair (pair_of entry))) entries
 
-pub other_without_entry : (shape : Shape) (entries : List IndexEntry) (pair : Pair) (place : Place) → ¬ (place ≡ slot_for shape pair) → entries_in shape (without_entry pair entries) place ≡ entries_in shape entries place
+pub other_without_entry : (shape : Shape) (entries : List IndexEntry) (pair : Pair) (place : Place) → ¬ (place ≡ slot_for shape pair) → entries_in shape (without_pair pair entries) place ≡ entries_in shape entries place
 other_without_entry shape entries pair place apart =
     chosen-chosen (λ entry. belongs shape place (pair_of entry)) (λ entry. not (is_pair pair (pair_of entry))) (λ entry here. keeps entry here (is_pair pair (pair_of entry)) refl) entries
   where
@@ -75,10 +75,10 @@ pub entry_in_slot : (shape : Shape) (entries : List IndexEntry) (pair : Pair) �
 entry_in_slot shape entries pair =
     item_of-where pair_of pair_total pair_same (belongs shape (slot_for shape pair)) entries pair ∙ ap (λ b. cond b (entry_for entries pair) None) (same_itself (slot_for shape pair))
 
-pub entry_for-with : (entries : List IndexEntry) (entry : IndexEntry) (pair : Pair) → entry_for (with_entry entry entries) pair ≡ cond (eq_by_cmp pair_cmp pair (pair_of entry)) (Some entry) (entry_for entries pair)
+pub entry_for-with : (entries : List IndexEntry) (entry : IndexEntry) (pair : Pair) → entry_for (with_pair entry entries) pair ≡ cond (eq_by_cmp pair_cmp pair (pair_of entry)) (Some entry) (entry_for entries pair)
 entry_for-with entries entry pair = item_of-with_item pair_of pair_total pair_same entry entries pair
 
-pub entry_for-without : (entries : List IndexEntry) (gone pair : Pair) → entry_for (without_entry gone entries) pair ≡ cond (not (is_pair gone pair)) (entry_for entries pair) None
+pub entry_for-without : (entries : List IndexEntry) (gone pair : Pair) → entry_for (without_pair gone entries) pair ≡ cond (not (is_pair gone pair)) (entry_for entries pair) None
 entry_for-without entries gone pair = item_of-where pair_of pair_total pair_same (λ other. not (is_pair gone other)) entries pair
 
 -- ---- what has a spelling
@@ -89,14 +89,14 @@ holder_in shape contents entries place indexed = record {
   each = All-filter IndexEntryFits IndexEntryFits (λ entry. belongs shape place (pair_of entry)) (λ _ _ fits. fits) entries indexed.each;
 }
 
-pub holder-with_entry : (entry : IndexEntry) (entries : List IndexEntry) → IndexEntryFits entry → IsIndexHolder (record { entries = entries }) → IsIndexHolder (record { entries = with_entry entry entries })
-holder-with_entry entry entries fits holder = record {
+pub holder-with_pair : (entry : IndexEntry) (entries : List IndexEntry) → IndexEntryFits entry → IsIndexHolder (record { entries = entries }) → IsIndexHolder (record { entries = with_pair entry entries })
+holder-with_pair entry entries fits holder = record {
   rising = is_rising-with_item pair_of pair_total pair_same is_pair_before before_is entry entries holder.rising;
   each = All-with_item pair_of pair_cmp IndexEntryFits entry entries fits holder.each;
 }
 
-pub holder-without_entry : (pair : Pair) (entries : List IndexEntry) → IsIndexHolder (record { entries = entries }) → IsIndexHolder (record { entries = without_entry pair entries })
-holder-without_entry pair entries holder = record {
+pub holder-without_pair : (pair : Pair) (entries : List IndexEntry) → IsIndexHolder (record { entries = entries }) → IsIndexHolder (record { entries = without_pair pair entries })
+holder-without_pair pair entries holder = record {
   rising = is_rising-where pair_of pair_total pair_same is_pair_before before_is (λ other. not (is_pair pair other)) entries holder.rising;
   each = All-filter IndexEntryFits IndexEntryFits (λ entry. not (is_pair pair (pair_of entry))) (λ _ _ fits. fits) entries holder.each;
 }

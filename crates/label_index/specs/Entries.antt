@@ -22,14 +22,14 @@ pair_cmp one other = ordering_then (nat_cmp one.0 other.0) (nat_cmp one.1 other.
 abbrev pub entry_for : List IndexEntry → Pair → Option IndexEntry
 entry_for = item_of pair_of pair_cmp
 
-abbrev pub with_entry : IndexEntry → List IndexEntry → List IndexEntry
-with_entry = with_item pair_of pair_cmp
+abbrev pub with_pair : IndexEntry → List IndexEntry → List IndexEntry
+with_pair = with_item pair_of pair_cmp
 
 abbrev pub is_pair : Pair → Pair → Bool
 is_pair one other = one.0 == other.0 && one.1 == other.1
 
-abbrev pub without_entry : Pair → List IndexEntry → List IndexEntry
-without_entry pair entries = filter (λ entry. not (is_pair pair (pair_of entry))) entries
+abbrev pub without_pair : Pair → List IndexEntry → List IndexEntry
+without_pair pair entries = filter (λ entry. not (is_pair pair (pair_of entry))) entries
 
 -- the entries that belong in a slot
 abbrev pub slot_for : Shape → Pair → Place

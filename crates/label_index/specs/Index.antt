@@ -15,7 +15,7 @@ use Rattle.holder_codec.specs.Represents.{IsSlot}
 use Rattle.holder_codec.specs.Knowing.{Wherever}
 use Rattle.held_objects.specs.Knows.{Knows}
 use Rattle.held_objects.specs.Held.{FindsHolder}
-use Rattle.label_index.specs.Entries.{Pair, entries_in, entry_for, pair_of, slot_for, with_entry, without_entry}
+use Rattle.label_index.specs.Entries.{Pair, entries_in, entry_for, pair_of, slot_for, with_pair, without_pair}
 
 -- the index has these entries: each slot has the spelling of those that belong there
 pub record IsIndexed (shape : Shape) (contents : Contents) (entries : List IndexEntry) : Type 0 where
@@ -61,7 +61,7 @@ module _ {N : Type 0} where
   pub record Adds (entry : IndexEntry) (old new : StoreState N) (added : Bool) : Type 0 where
     pub answer : WhereverIndexed old new (λ _ entries. entry_for entries (pair_of entry) ≡ None → added ≡ takes_one_more old.shape entries (pair_of entry))
     pub indexed : added ≡ true → WhereverIndexed old new (λ store entries. entry_for entries (pair_of entry) ≡ None
-        → IsIndexed old.shape (overlay store new.writes) (with_entry entry entries))
+        → IsIndexed old.shape (overlay store new.writes) (with_pair entry entries))
     pub unchanged : added ≡ false → Looks old new
     pub known : MatchBool added (Knows (Has (pair_of entry)) new) (Knows (Lacks (pair_of entry)) new)
     pub indexes : Knows Indexes new
@@ -69,7 +69,7 @@ module _ {N : Type 0} where
 
   -- the index has the pair no more
   pub record Removes (pair : Pair) (old new : StoreState N) : Type 0 where
-    pub removed : WhereverIndexed old new (λ store entries. IsIndexed old.shape (overlay store new.writes) (without_entry pair entries))
+    pub removed : WhereverIndexed old new (λ store entries. IsIndexed old.shape (overlay store new.writes) (without_pair pair entries))
     pub absent : Knows (Lacks pair) new
     pub indexes : Knows Indexes new
     pub others : StaysKnown (λ other. other ≢ pair) old new

@@ -8,7 +8,7 @@ ghost use Rattle.holder_codec.specs.declared.index_entry.IndexEntry.{IndexEntry}
 ghost use Rattle.holder_codec.specs.Index.{IsIndexHolder, index_words, is_pair_before};
 ghost use Rattle.holder_codec.specs.Order.{is_rising};
 ghost use Rattle.held_objects.specs.Knows.{Knows};
-ghost use Rattle.label_index.specs.Entries.{entry_for, pair_of, slot_for, with_entry, without_entry};
+ghost use Rattle.label_index.specs.Entries.{entry_for, pair_of, slot_for, with_pair, without_pair};
 ghost use Rattle.label_index.specs.Index.{FindsSlot, Indexes, IsSlotFor};
 
 use gdi_kinds::NoMemory;
@@ -66,7 +66,7 @@ fn position_of(index: &IndexHolder, entry: IndexEntry) -> Result<usize, usize>
     requires { IsTrue (is_rising is_pair_before index.now.entries) }
     ensures { MatchResult result
         (λ i. (found : IndexEntry) × (slice_get index.now.entries i ≡ Some found) × (entry_for index.now.entries (pair_of entry) ≡ Some found))
-        (λ i. (i ≤ length index.now.entries) × (entry_for index.now.entries (pair_of entry) ≡ None) × ((one : IndexEntry) → pair_of one ≡ pair_of entry → insert index.now.entries i one ≡ with_entry one index.now.entries)) }
+        (λ i. (i ≤ length index.now.entries) × (entry_for index.now.entries (pair_of entry) ≡ None) × ((one : IndexEntry) → pair_of one ≡ pair_of entry → insert index.now.entries i one ≡ with_pair one index.now.entries)) }
 {
     index
         .entries
@@ -82,7 +82,7 @@ pub(crate) fn slot_with(
 ) -> Result<IndexHolder, NoMemory>
     requires holder { IsIndexHolder index.now }
     requires absent { entry_for index.now.entries (pair_of entry) ≡ None }
-    ensures made { IfOk result (λ made. made ≡ (record { entries = with_entry entry index.now.entries })) }
+    ensures made { IfOk result (λ made. made ≡ (record { entries = with_pair entry index.now.entries })) }
     ensures holder { IfOk result IsIndexHolder }
 {
     let mut entries = index.entries.as_slice().to_vec(alloc)?;
@@ -100,7 +100,7 @@ pub(crate) fn slot_without(
     entry: IndexEntry,
 ) -> Result<IndexHolder, NoMemory>
     requires holder { IsIndexHolder index.now }
-    ensures made { IfOk result (λ made. made ≡ (record { entries = without_entry (pair_of entry) index.now.entries })) }
+    ensures made { IfOk result (λ made. made ≡ (record { entries = without_pair (pair_of entry) index.now.entries })) }
     ensures holder { IfOk result IsIndexHolder }
 {
     let mut entries = IndexList::new(alloc);

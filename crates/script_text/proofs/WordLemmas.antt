@@ -7,7 +7,7 @@ use Rattle.std.proofs.lemmas.Grind.{flat_map-append}
 use Rattle.std.proofs.lemmas.List.Sums.{fails_before_first}
 use Rattle.std.proofs.lemmas.List.Quantifiers.{position-Some}
 use Rattle.script_text.specs.Spelling.{quoted_byte}
-use Rattle.script_text.specs.Words.{HasNoSpace, IsPlain, IsQuoted, IsWord, IsBehind, IsClosed, HasFirst, IsOpening, IsCut}
+use Rattle.script_text.specs.Words.{HasNoSpace, IsUnquoted, IsQuoted, IsLineWord, IsBehind, IsClosed, HasFirst, IsOpening, IsCut}
 use Rattle.script_text.proofs.ValueLemmas.{same_text, heads_differ, rest_is_closed}
 
 -- what stands behind a word
@@ -15,7 +15,7 @@ abbrev tail : Option (List ℕ) → List ℕ
 tail None = []
 tail (Some rest) = 32 ∷ rest
 
-first_tail : (line w : List ℕ) (o : Option (List ℕ)) → HasFirst line w o → IsWord w × (line ≡ w ++ tail o)
+first_tail : (line w : List ℕ) (o : Option (List ℕ)) → HasFirst line w o → IsLineWord w × (line ≡ w ++ tail o)
 first_tail line w None first = (first.0, first.1 ∙ sym (append-nil w))
 first_tail line w (Some rest) first = (first.0, first.1)
 
@@ -38,12 +38,12 @@ plain_same (a ∷ v) (b ∷ w) o p vs ws same =
     let rest = plain_same v w o p vs.1 ws.1 (cc) in
     (let behind : v ≡ w = rest.0 in cc, rest.1)
 
-no_spaces : (w : List ℕ) → IsPlain w → HasNoSpace w
+no_spaces : (w : List ℕ) → IsUnquoted w → HasNoSpace w
 no_spaces [] plain = tt
 no_spaces (b ∷ w) plain = plain.1
 
 -- a plain word and what follows it don't begin with a quote
-not_quote : (w : List ℕ) (o : Option (List ℕ)) (rest : List ℕ) → IsPlain w → w ++ tail o ≢ 34 ∷ rest
+not_quote : (w : List ℕ) (o : Option (List ℕ)) (rest : List ℕ) → IsUnquoted w → w ++ tail o ≢ 34 ∷ rest
 not_quote [] None rest plain same = absurd (cc)
 not_quote [] (Some r) rest plain same = heads_differ 32 34 r rest refl same
 not_quote (b ∷ w) o rest plain same = plain.0 (cc)
@@ -51,7 +51,7 @@ not_quote (b ∷ w) o rest plain same = plain.0 (cc)
 quoted_tail : (bytes : List ℕ) (o : Option (List ℕ)) → (34 ∷ flat_map quoted_byte bytes ++ 34 ∷ []) ++ tail o ≡ 34 ∷ (flat_map quoted_byte bytes ++ 34 ∷ tail o)
 quoted_tail bytes o = ap (λ (x : List ℕ). 34 ∷ x) (append_assoc (flat_map quoted_byte bytes) (34 ∷ []) (tail o))
 
-words_same : (v w : List ℕ) (o p : Option (List ℕ)) → IsWord v → IsWord w → v ++ tail o ≡ w ++ tail p → (v ≡ w) × (o ≡ p)
+words_same : (v w : List ℕ) (o p : Option (List ℕ)) → IsLineWord v → IsLineWord w → v ++ tail o ≡ w ++ tail p → (v ≡ w) × (o ≡ p)
 words_same v w o p (inl plain) (inl also) same = plain_same v w o p (no_spaces v plain) (no_spaces w also) same
 words_same v w o p (inl plain) (inr (bytes, is)) same = absurd (not_quote v o _ plain (same ∙ ap (λ (x : List ℕ). x ++ tail p) is ∙ quoted_tail bytes p))
 words_same v w o p (inr (bytes, is)) (inl plain) same = absurd (not_quote w p _ plain (sym same ∙ ap (λ (x : List ℕ). x ++ tail o) is ∙ quoted_tail bytes o))
@@ -155,7 +155,7 @@ no_space_before line zero before le = tt
 no_space_before [] (suc end) before le = tt
 no_space_before (b ∷ line) (suc end) before le = (before 0 (omega arith), no_space_before line end (λ k lt. before (suc k) (omega arith)) (omega arith))
 
-plain_of : (w : List ℕ) (behind : List ℕ) → HasNoSpace w → ((rest : List ℕ) → w ++ behind ≢ 34 ∷ rest) → IsPlain w
+plain_of : (w : List ℕ) (behind : List ℕ) → HasNoSpace w → ((rest : List ℕ) → w ++ behind ≢ 34 ∷ rest) → IsUnquoted w
 plain_of [] behind none other = tt
 plain_of (b ∷ w) behind none other = (λ quote. other (w ++ behind) (ap (λ (x : ℕ). x ∷ (w ++ behind)) quote), none)
 

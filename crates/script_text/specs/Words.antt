@@ -8,16 +8,16 @@ abbrev pub HasNoSpace : List ℕ → Type 0
 HasNoSpace bytes = AllByRecursion (λ (b : ℕ). b ≢ 32) bytes
 
 -- a word that isn't quoted has no space and doesn't begin with a quote
-abbrev pub IsPlain : List ℕ → Type 0
-IsPlain [] = Unit {0}
-IsPlain (byte ∷ bytes) = (byte ≢ 34) × HasNoSpace (byte ∷ bytes)
+abbrev pub IsUnquoted : List ℕ → Type 0
+IsUnquoted [] = Unit {0}
+IsUnquoted (byte ∷ bytes) = (byte ≢ 34) × HasNoSpace (byte ∷ bytes)
 
 -- bytes between quotes, a quote and a backslash behind a backslash
 abbrev pub IsQuoted : List ℕ → Type 0
 IsQuoted w = (bytes : List ℕ) × (w ≡ 34 ∷ flat_map quoted_byte bytes ++ 34 ∷ [])
 
-abbrev pub IsWord : List ℕ → Type 0
-IsWord w = IsPlain w ⊎ IsQuoted w
+abbrev pub IsLineWord : List ℕ → Type 0
+IsLineWord w = IsUnquoted w ⊎ IsQuoted w
 
 -- what follows a word: nothing, or a space and this
 abbrev pub IsBehind : List ℕ → Option (List ℕ) → Type 0
@@ -30,8 +30,8 @@ IsClosed quoted rest = (bytes : List ℕ) × (quoted ≡ flat_map quoted_byte by
 
 -- a line begins with a word, and this follows the space behind it, or nothing does
 abbrev pub HasFirst : List ℕ → List ℕ → Option (List ℕ) → Type 0
-HasFirst line w None = IsWord w × (line ≡ w)
-HasFirst line w (Some rest) = IsWord w × (line ≡ w ++ 32 ∷ rest)
+HasFirst line w None = IsLineWord w × (line ≡ w)
+HasFirst line w (Some rest) = IsLineWord w × (line ≡ w ++ 32 ∷ rest)
 
 -- the bytes of a line up to its first space, and what follows that, where it has one
 abbrev pub IsOpening : List ℕ → List ℕ → Option (List ℕ) → Type 0

@@ -83,8 +83,8 @@ pub record MayCommit {N : Type 0} (fits : Shape → Entry N → Type 0) (shape :
       ≤ count_on rank (places_of view.private) + sum_below shape.blocks (kept_at view.dirty rank)
 
 -- the entry that the view makes of these: it is made under the least of its rights
-abbrev pub entry_of : {N : Type 0} → View N → Contents → Contents → N → Entry N
-entry_of view reads writes note =
+abbrev pub entry_by : {N : Type 0} → View N → Contents → Contents → N → Entry N
+entry_by view reads writes note =
     record { rank = least_of view.rights; reads = reads; writes = writes; note = note }
 
 -- the entry is the last of the history, and the view has seen all of it

@@ -5,7 +5,7 @@ use Rattle.rma_layout.specs.Placement.{Place}
 use Rattle.object_words.specs.Contents.{Contents}
 use Rattle.object_words.specs.Entries.{Entry}
 use Rattle.window_rule.specs.View.{View, Outside}
-use Rattle.window_rule.specs.Commit.{entry_of}
+use Rattle.window_rule.specs.Commit.{entry_by}
 
 -- two words of one object
 abbrev pub pair_contents : Place → ℕ → ℕ → Contents
@@ -14,7 +14,7 @@ pair_contents object first second = (object, first ∷ (second ∷ [])) ∷ []
 -- the entry that writes two words, and has read nothing
 abbrev pub pair_entry : {N : Type 0} → View N → Place → ℕ → ℕ → N → Entry N
 pair_entry view object first second note =
-    entry_of view [] (pair_contents object first second) note
+    entry_by view [] (pair_contents object first second) note
 
 -- the view is in no transaction
 pub record IsAtRest {N : Type 0} (view : View N) : Type 0 where

@@ -3,7 +3,7 @@ ghost use Rattle.std.specs.Prelude.{◌≡◌};
 ghost use Rattle.object_words.specs.Contents.{Contents};
 ghost use Rattle.window_rule.specs.Lengths.{Places};
 ghost use Rattle.window_rule.specs.Truths.{IsTrueView, WasLawful};
-ghost use Rattle.window_rule.specs.Commit.{Commits, MayCommit, entry_of};
+ghost use Rattle.window_rule.specs.Commit.{Commits, MayCommit, entry_by};
 ghost use Rattle.window_rule.specs.Trails.{Follows};
 
 use crate::rank::Rank;
@@ -25,9 +25,9 @@ impl<L: Law> Rank<L> {
     pub fn commit<C: Enters<L>>(&mut self, window: &Window<L>, note: &C) -> u64
         requires window { self.old.window ≡ window.now.id }
         requires may { MayCommit L.fits window.now.shape self.old.view
-            (entry_of self.old.view (C.reads note.now) (C.writes note.now) (C.note note.now)) }
+            (entry_by self.old.view (C.reads note.now) (C.writes note.now) (C.note note.now)) }
         ensures window { self.new.window ≡ self.old.window }
-        ensures view { Commits (entry_of self.old.view (C.reads note.now) (C.writes note.now) (C.note note.now))
+        ensures view { Commits (entry_by self.old.view (C.reads note.now) (C.writes note.now) (C.note note.now))
             self.old.view result self.new.view }
     {
         self.fetch_add_about::<Brand, C>(window, Word::Commit, 1, note)
