@@ -2,7 +2,7 @@ ghost use Rattle.gdi_io.specs.Whole.{ReadsAll, WritesAll};
 
 use crate::{Failed, ReadRefused, Shelf, Sink};
 use gdi_kinds::Bytes;
-use std::alloc::Global;
+use std::alloc::{AllocError, Global};
 
 const LONGEST_FILE: usize = 67_108_864;
 
@@ -16,19 +16,30 @@ const PIECE: usize = 65_536;
 pub fn read_all<F: Shelf>(alloc: Global, shelf: &mut F, name: &str) -> Result<Bytes, ReadRefused>
     ensures { ReadsAll (F.told shelf.old) (F.told shelf.new) name.now result }
 {
-    shelf.select(name)?;
-    let mut buffer = vec![in alloc; 0u8; PIECE]?;
+    match shelf.select(name) {
+        Ok(()) => {}
+        Err(Failed) => return Err(ReadRefused::Failed),
+    }
+    let Ok(mut buffer) = vec![in alloc; 0u8; PIECE] else {
+        return Err(ReadRefused::NoMemory);
+    };
     let piece = buffer.as_mut_slice();
     let mut bytes = Vec::new(alloc);
-    loop {
-        let count = shelf.read(piece)?;
+    'pieces: loop {
+        let count = match shelf.read(piece) {
+            Ok(count) => count,
+            Err(Failed) => return Err(ReadRefused::Failed),
+        };
         if count == 0 {
             return Ok(Bytes::from_vec(bytes));
         }
         if count > LONGEST_FILE - bytes.len() {
             return Err(ReadRefused::TooLong);
         }
-        bytes.extend_from_slice(&piece[..count])?;
+        match bytes.extend_from_slice(&piece[..count]) {
+            Ok(()) => {}
+            Err(AllocError) => return Err(ReadRefused::NoMemory),
+        }
     }
 }
 
