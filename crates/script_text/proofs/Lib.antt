@@ -8,3 +8,4 @@ pub mod LineLemmas
 pub mod StepLemmas
 pub mod ReadingLemmas
 pub mod PartLemmas
+pub mod PrintedLemmas

@@ -1,6 +1,6 @@
 ghost use Rattle.std.specs.Prelude.{◌≡◌, ◌++◌, ◌∷◌, [], IfOk, OnOk};
 ghost use Rattle.std.specs.List.{flat_map};
-ghost use Rattle.script_text.specs.Scripts.{script_text, step_text, steps_of_section, steps_of_txn};
+ghost use Rattle.script_text.specs.Scripts.{IsScript, Spells, script_text, step_text, steps_of_section, steps_of_txn};
 
 use crate::call_printer::print_call;
 use gdi_kinds::{Bytes, Call, NoMemory, Script, Section, Txn};
@@ -8,7 +8,8 @@ use std::alloc::Global;
 
 /// The text of a script: each line ends with LF, and none is skipped.
 pub fn print_script(alloc: Global, script: &Script) -> Result<Bytes, NoMemory>
-    ensures { IfOk result (λ bytes. bytes ≡ script_text script.now) }
+    ensures text { IfOk result (λ bytes. bytes ≡ script_text script.now) }
+    ensures spelled { IsScript script.now → IfOk result (λ bytes. Spells bytes script.now) }
 {
     let mut out = Vec::new(alloc);
     for section in script.as_slice() {

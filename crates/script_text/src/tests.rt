@@ -180,19 +180,10 @@ fn repeated(
 fn limits(rt: HostRuntime) -> Result<(), Fail> {
     let alloc = rt.alloc();
     let has: &[u8] = b" and has A";
-    let table: [(&[u8], &[u8], usize, &[u8], u64, u32); 14] = [
+    let table: [(&[u8], &[u8], usize, &[u8], u64, u32); 12] = [
         (b"", b"section\n", 4096, b"", 0, 0),
         (b"", b"section\n", 4097, b"", 4097, 8),
         (b"#\n", b"section\n", 4096, b"\nsection x", 4099, 4),
-        (b"section\n", b"txn\nend\n", 1_048_576, b"", 0, 0),
-        (
-            b"section\n",
-            b"all\nabort\n",
-            1_048_576,
-            b"txn",
-            2_097_154,
-            8,
-        ),
         (b"section\ntxn\n", b"has 1\n", 65_536, b"end\n", 0, 0),
         (b"section\ntxn\n", b"has 1\n", 65_537, b"end\n", 65_539, 8),
         (b"section\ntxn\n", b"has 1\n", 65_536, b"has 01", 65_539, 5),
@@ -224,6 +215,28 @@ fn limits(rt: HostRuntime) -> Result<(), Fail> {
     Ok(())
 }
 
+// The limit of the transactions of all sections.
+#[test]
+fn limit_of_transactions(rt: HostRuntime) -> Result<(), Fail> {
+    let alloc = rt.alloc();
+    let front = repeated(
+        alloc,
+        b"section\n",
+        b"txn\nend\n",
+        1_048_575,
+        b"section\nall\n",
+    )?;
+    let most = repeated(alloc, front.as_slice(), b"end\n", 1, b"")?;
+    assert!(rt; read_script(alloc, most.as_slice()).is_ok());
+    let more = repeated(alloc, front.as_slice(), b"end\n", 1, b"txn")?;
+    let refused = ScriptRefused::Bad {
+        line: 2_097_155,
+        kind: 8,
+    };
+    assert!(rt; matches!(read_script(alloc, more.as_slice()), Err(told) if told == refused));
+    Ok(())
+}
+
 fn name(bytes: &[u8]) -> Result<Name, Fail> {
     Ok(Name::of(bytes).ok_or("no name")?)
 }
@@ -242,29 +255,22 @@ fn end_of_edge(inward: bool, undirected: bool) -> EdgeLine {
     }
 }
 
-// Every reply.
-fn replies(alloc: Global) -> Result<ReplyList, Fail> {
+// The replies that list something.
+fn lists(alloc: Global) -> Result<ReplyList, Fail> {
     let mut list = ReplyList::new(alloc);
-    list.push(Reply::Done)?;
-    list.push(Reply::Yes)?;
-    list.push(Reply::No)?;
-    list.push(Reply::Exists)?;
-    list.push(Reply::NoVertex(7))?;
-    list.push(Reply::NoEdge)?;
-    list.push(Reply::NoLabel)?;
-    list.push(Reply::NoType)?;
-    list.push(Reply::NoProp)?;
-    list.push(Reply::WrongKind)?;
-    list.push(Reply::NotMany)?;
-    list.push(Reply::HasLabel)?;
-    list.push(Reply::LacksLabel)?;
-    list.push(Reply::TooLarge)?;
-    list.push(Reply::EdgeIs(1, 209_713))?;
-    let mut names = NameList::new(alloc);
-    names.push(name(b"KNOWS")?)?;
-    names.push(name(b"A")?)?;
-    list.push(Reply::Labels(names))?;
+    list.push(Reply::Labels(NameList::from_vec([name(b"KNOWS")?, name(b"A")?].to_vec(alloc)?)))?;
     list.push(Reply::Labels(NameList::new(alloc)))?;
+    list.push(Reply::Props(props(alloc)?))?;
+    list.push(Reply::Value(Value::Bool(false)))?;
+    list.push(Reply::Values(values(alloc)?))?;
+    list.push(Reply::Edges(edges(alloc)?))?;
+    list.push(Reply::Ids(NumList::from_vec([0, u64::MAX].to_vec(alloc)?)))?;
+    list.push(Reply::Levels(PairList::from_vec([Pair { id: 1, number: 2 }].to_vec(alloc)?)))?;
+    list.push(Reply::Parts(PairList::new(alloc)))?;
+    Ok(list)
+}
+
+fn props(alloc: Global) -> Result<PropList, Fail> {
     let mut props = PropList::new(alloc);
     props.push(PropLine {
         name: name(b"name")?,
@@ -274,26 +280,47 @@ fn replies(alloc: Global) -> Result<ReplyList, Fail> {
         name: name(b"n")?,
         value: Value::Int(-5),
     })?;
-    list.push(Reply::Props(props))?;
-    list.push(Reply::Value(Value::Bool(false)))?;
+    Ok(props)
+}
+
+fn values(alloc: Global) -> Result<ValueList, Fail> {
     let mut values = ValueList::new(alloc);
     values.push(Value::Int(5))?;
     values.push(text(alloc, b"a\\")?)?;
-    list.push(Reply::Values(values))?;
+    Ok(values)
+}
+
+fn edges(alloc: Global) -> Result<EdgeList, Fail> {
     let mut edges = EdgeList::new(alloc);
     edges.push(end_of_edge(false, false))?;
     edges.push(end_of_edge(true, false))?;
     edges.push(end_of_edge(false, true))?;
-    list.push(Reply::Edges(edges))?;
-    let mut ids = NumList::new(alloc);
-    ids.push(0)?;
-    ids.push(18_446_744_073_709_551_615)?;
-    list.push(Reply::Ids(ids))?;
-    let mut levels = PairList::new(alloc);
-    levels.push(Pair { id: 1, number: 2 })?;
-    list.push(Reply::Levels(levels))?;
-    list.push(Reply::Parts(PairList::new(alloc)))?;
-    list.push(Reply::Count(2))?;
+    Ok(edges)
+}
+
+// The other replies.
+fn words(alloc: Global) -> Result<ReplyList, Fail> {
+    let mut list = ReplyList::new(alloc);
+    for reply in [
+        Reply::Done,
+        Reply::Yes,
+        Reply::No,
+        Reply::Exists,
+        Reply::NoVertex(7),
+        Reply::NoEdge,
+        Reply::NoLabel,
+        Reply::NoType,
+        Reply::NoProp,
+        Reply::WrongKind,
+        Reply::NotMany,
+        Reply::HasLabel,
+        Reply::LacksLabel,
+        Reply::TooLarge,
+        Reply::EdgeIs(1, 209_713),
+        Reply::Count(2),
+    ] {
+        list.push(reply)?;
+    }
     Ok(list)
 }
 
@@ -306,14 +333,14 @@ fn outcomes_printed(rt: HostRuntime) -> Result<(), Fail> {
             1,
             Outcome::Wrote {
                 k: 3,
-                replies: replies(alloc)?,
+                replies: words(alloc)?,
             },
         ),
         (
             2,
             Outcome::Read {
                 place: 0,
-                replies: ReplyList::new(alloc),
+                replies: lists(alloc)?,
             },
         ),
         (3, Outcome::Aborted),
@@ -334,10 +361,10 @@ fn outcomes_printed(rt: HostRuntime) -> Result<(), Fail> {
     let printed = print_outcomes(alloc, &Printed { lines, writes: 5 })?;
     let wanted: &[u8] =
         b"2.1 w 3\n done\n yes\n no\n exists\n novertex 7\n noedge\n nolabel\n notype\n noprop\n\
- wrongkind\n notmany\n haslabel\n lackslabel\n toolarge\n edge 1 209713\n labels KNOWS A\n labels\n\
- props name=\"Byron, \\\"George\\\"\" n=-5\n value false\n values 5 \"a\\\\\"\n\
- edges out:1:0:2 in:1:0:2 und:1:0:2\n ids 0 18446744073709551615\n levels 1:2\n parts\n count 2\n\
-2.2 r 0\n2.3 aborted\n2.4 full 65535 4\nwrites 5\n";
+\x20wrongkind\n notmany\n haslabel\n lackslabel\n toolarge\n edge 1 209713\n count 2\n\
+2.2 r 0\n labels KNOWS A\n labels\n props name=\"Byron, \\\"George\\\"\" n=-5\n value false\n values 5 \"a\\\\\"\n\
+\x20edges out:1:0:2 in:1:0:2 und:1:0:2\n ids 0 18446744073709551615\n levels 1:2\n parts\n\
+2.3 aborted\n2.4 full 65535 4\nwrites 5\n";
     assert_eq!(rt; printed.as_slice(), wanted);
     let none = Printed {
         lines: LineList::new(alloc),
