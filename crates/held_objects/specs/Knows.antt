@@ -15,4 +15,5 @@ pub record Knows {N : Type 0} (Holds : Shape → Contents → Type 0) (state : S
 -- such a fact looks at objects of this kind alone
 abbrev pub LooksAt : (Shape → Place → Type 0) → (Shape → Contents → Type 0) → Type 0
 LooksAt IsOfKind Holds =
-    (shape : Shape) (one other : Contents) → ((place : Place) → IsOfKind shape place → content_of one place ≡ content_of other place) → Holds shape one → Holds shape other
+    (shape : Shape) (one other : Contents) → ((place : Place) → IsOfKind shape place → content_of one place ≡ content_of other place)
+    → Holds shape one → Holds shape other

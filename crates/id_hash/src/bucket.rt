@@ -52,7 +52,8 @@ pub(crate) fn write_bucket<L: KeepsGraph, S: Store<L>>(
     requires is { IfOk made IsBucketHolder }
     requires few { IfOk made (λ bucket. length (bucket_words bucket) ≤ MOST_WORDS) }
     ensures works { Works L.fits S.state S.explains S.says (IsBucketFor id) Nowhere store.old store.new result }
-    ensures wrote { OnOk result (IsOkAnd made (λ bucket. WritesObject (bucket_of (S.state store.old).shape id) (bucket_words bucket) (S.state store.old) (S.state store.new))) }
+    ensures wrote { OnOk result (IsOkAnd made (λ bucket.
+        WritesObject (bucket_of (S.state store.old).shape id) (bucket_words bucket) (S.state store.old) (S.state store.new))) }
 {
     let at = store.geometry().bucket(id);
     put(alloc, store, at, made)
@@ -70,7 +71,8 @@ fn position_of(bucket: &BucketHolder, id: u64) -> Result<usize, usize>
     requires { IsTrue (is_rising is_entry_before bucket.now.entries) }
     ensures { MatchResult result
         (λ i. (found : BucketEntry) × (slice_get bucket.now.entries i ≡ Some found) × (entry_for bucket.now.entries id ≡ Some found))
-        (λ i. (i ≤ length bucket.now.entries) × (entry_for bucket.now.entries id ≡ None) × ((entry : BucketEntry) → entry.id ≡ id → insert bucket.now.entries i entry ≡ with_entry entry bucket.now.entries)) }
+        (λ i. (i ≤ length bucket.now.entries) × (entry_for bucket.now.entries id ≡ None)
+        × ((entry : BucketEntry) → entry.id ≡ id → insert bucket.now.entries i entry ≡ with_entry entry bucket.now.entries)) }
 {
     bucket
         .entries

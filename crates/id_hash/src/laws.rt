@@ -16,14 +16,18 @@ use object_words::Law;
 pub fn knowledge_stays<L: Law>()
     ensures at_first { (state : StoreState L.Note) → IsInRange state.shape → state.writes ≡ [] → Knows Leads state }
     ensures looks { (old new : StoreState L.Note) → Looks old new → StaysKnown (λ _. Unit {0}) old new }
-    ensures elsewhere { (Reached : Place → Bool) (Makes : ℕ → Bool) (old new : StoreState L.Note) → ((place : Place) → IsBucket old.shape place → Reached place ≡ false) →
-        Reaches (λ place. Reached place ≡ true) (λ rank. Makes rank ≡ true) old new → IsByRisingObject new.writes → StaysKnown (λ _. Unit {0}) old new }
-    ensures leads { (id : ℕ) (found : Option Place) (state : StoreState L.Note) → Knows (LeadsTo id found) state → Knows Leads state }
+    ensures elsewhere { (Reached : Place → Bool) (Makes : ℕ → Bool) (old new : StoreState L.Note) →
+        ((place : Place) → IsBucket old.shape place → Reached place ≡ false) →
+        Reaches (λ place. Reached place ≡ true) (λ rank. Makes rank ≡ true) old new →
+        IsByRisingObject new.writes → StaysKnown (λ _. Unit {0}) old new }
+    ensures leads { (id : ℕ) (found : Option Place) (state : StoreState L.Note) →
+        Knows (LeadsTo id found) state → Knows Leads state }
 {}
 
 /// The buckets fix the vertices: what holds of some vertices to which they lead holds of all.
 pub fn some_vertices_are_all()
-    ensures leads_to { (shape : Shape) (contents : Contents) (id : ℕ) (found : Option Place) → IsInRange shape → LeadsTo id found shape contents →
+    ensures leads_to { (shape : Shape) (contents : Contents) (id : ℕ) (found : Option Place) →
+        IsInRange shape → LeadsTo id found shape contents →
         (vertices : VertexObjects) → BucketsLead shape contents vertices → at vertices id ≡ found }
     ensures has { (shape : Shape) (contents : Contents) (id : ℕ) → IsInRange shape → Has id shape contents →
         (vertices : VertexObjects) → BucketsLead shape contents vertices → IsSome (at vertices id) }

@@ -21,7 +21,8 @@ use Rattle.label_index.specs.Entries.{Pair, entries_in, entry_for, pair_of, slot
 pub record IsIndexed (shape : Shape) (contents : Contents) (entries : List IndexEntry) : Type 0 where
   pub rising : IsTrue (is_rising is_pair_before entries)
   pub each : AllByRecursion IndexEntryFits entries
-  pub slots : (place : Place) → IsSlot shape place → content_of contents place ≡ index_words (record { entries = entries_in shape entries place })
+  pub slots : (place : Place) → IsSlot shape place →
+      content_of contents place ≡ index_words (record { entries = entries_in shape entries place })
   pub within : (place : Place) → IsSlot shape place → length (content_of contents place) ≤ most_words
 
 -- whether the slot of a pair takes one entry more than belong there: each takes two words
@@ -59,7 +60,8 @@ module _ {N : Type 0} where
 
   -- the index has the entry too, unless the slot takes no more
   pub record Adds (entry : IndexEntry) (old new : StoreState N) (added : Bool) : Type 0 where
-    pub answer : WhereverIndexed old new (λ _ entries. entry_for entries (pair_of entry) ≡ None → added ≡ takes_one_more old.shape entries (pair_of entry))
+    pub answer : WhereverIndexed old new (λ _ entries. entry_for entries (pair_of entry) ≡ None
+        → added ≡ takes_one_more old.shape entries (pair_of entry))
     pub indexed : added ≡ true → WhereverIndexed old new (λ store entries. entry_for entries (pair_of entry) ≡ None
         → IsIndexed old.shape (overlay store new.writes) (with_pair entry entries))
     pub unchanged : added ≡ false → Looks old new

@@ -15,8 +15,10 @@ use object_words::Law;
 
 /// A store that represents a graph has as its index each label of each vertex, and no other entries: the slots fix them.
 pub fn index_is_that_of_the_graph()
-    ensures of_graph { (shape : Shape) (store : Contents) (g : Graph) → Represents shape store g → IsInRange shape → IsIndexed shape store (tagged g) }
-    ensures fixed { (shape : Shape) (store : Contents) (one other : List IndexEntry) → IsInRange shape → IsIndexed shape store one → IsIndexed shape store other → one ≡ other }
+    ensures of_graph { (shape : Shape) (store : Contents) (g : Graph) →
+        Represents shape store g → IsInRange shape → IsIndexed shape store (tagged g) }
+    ensures fixed { (shape : Shape) (store : Contents) (one other : List IndexEntry) → IsInRange shape →
+        IsIndexed shape store one → IsIndexed shape store other → one ≡ other }
 {}
 
 /// What the calls need is known at first, and stays known while a transaction looks.

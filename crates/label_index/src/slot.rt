@@ -48,7 +48,8 @@ pub(crate) fn write_slot<L: KeepsGraph, S: Store<L>>(
     requires is { IfOk made IsIndexHolder }
     requires few { IfOk made (λ index. length (index_words index) ≤ 1048576) }
     ensures works { Works L.fits S.state S.explains S.says (IsSlotFor (pair_of entry)) Nowhere store.old store.new result }
-    ensures wrote { OnOk result (IsOkAnd made (λ index. WritesObject (slot_for (S.state store.old).shape (pair_of entry)) (index_words index) (S.state store.old) (S.state store.new))) }
+    ensures wrote { OnOk result (IsOkAnd made (λ index.
+        WritesObject (slot_for (S.state store.old).shape (pair_of entry)) (index_words index) (S.state store.old) (S.state store.new))) }
 {
     let at = store.geometry().slot(entry.label, entry.id);
     put(alloc, store, at, made)
@@ -65,8 +66,10 @@ pub(crate) fn has_room(index: &IndexHolder) -> bool
 fn position_of(index: &IndexHolder, entry: IndexEntry) -> Result<usize, usize>
     requires { IsTrue (is_rising is_pair_before index.now.entries) }
     ensures { MatchResult result
-        (λ i. (found : IndexEntry) × (slice_get index.now.entries i ≡ Some found) × (entry_for index.now.entries (pair_of entry) ≡ Some found))
-        (λ i. (i ≤ length index.now.entries) × (entry_for index.now.entries (pair_of entry) ≡ None) × ((one : IndexEntry) → pair_of one ≡ pair_of entry → insert index.now.entries i one ≡ with_pair one index.now.entries)) }
+        (λ i. (found : IndexEntry) × (slice_get index.now.entries i ≡ Some found)
+        × (entry_for index.now.entries (pair_of entry) ≡ Some found))
+        (λ i. (i ≤ length index.now.entries) × (entry_for index.now.entries (pair_of entry) ≡ None)
+        × ((one : IndexEntry) → pair_of one ≡ pair_of entry → insert index.now.entries i one ≡ with_pair one index.now.entries)) }
 {
     index
         .entries

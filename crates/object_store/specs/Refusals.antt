@@ -32,7 +32,8 @@ module _ {N : Type 0} where
   pub record RefusesAccess (object : Place) (old new : StoreState N) (said : Said) : Type 0 where
     pub aborted : Aborts old new
     -- the object, or one that was read
-    pub names : (said.names ≡ names_nothing) ⊎ (said.names ≡ names_object object) ⊎ ((read : Place) × (said.names ≡ names_object read) × IsSome (words_at old.reads read))
+    pub names : (said.names ≡ names_nothing) ⊎ (said.names ≡ names_object object)
+        ⊎ ((read : Place) × (said.names ≡ names_object read) × IsSome (words_at old.reads read))
     -- a store that tells its most is refused for memory, or in passing
     pub told : IsSome old.most → (said.for_memory ≡ true) ⊎ (said.passing ≡ true)
     pub passing : OnlyReadPasses old new said
@@ -40,7 +41,8 @@ module _ {N : Type 0} where
   pub record RefusesFresh (home : ℕ) (old new : StoreState N) (said : Said) : Type 0 where
     pub aborted : Aborts old new
     -- the home rank, or an object of it
-    pub names : (said.names ≡ names_nothing) ⊎ (said.names ≡ names_rank home) ⊎ ((object : Place) × (said.names ≡ names_object object) × (object.rank ≡ home))
+    pub names : (said.names ≡ names_nothing) ⊎ (said.names ≡ names_rank home)
+        ⊎ ((object : Place) × (said.names ≡ names_object object) × (object.rank ≡ home))
     pub told : IsSome old.most → (said.for_memory ≡ true) ⊎ (said.names ≡ names_rank home)
     -- by the rank's name only where as many objects are made as the store tells
     pub full : (most : ℕ → ℕ) → old.most ≡ Some most → said.names ≡ names_rank home → made_so_far old home ≡ most home
@@ -51,5 +53,6 @@ module _ {N : Type 0} where
     pub names : (said.names ≡ names_nothing) ⊎ ((rank : ℕ) × (said.names ≡ names_rank rank))
     -- a store that tells its most is refused for memory, or, if it is strict, by the name of the first rank without blocks
     pub told : IsSome old.most → (said.for_memory ≡ true)
-        ⊎ ((old.strict ≡ true) × ((rank : ℕ) × (said.names ≡ names_rank rank) × IsFirstWithoutBlocks old.shape (committed old) old.writes rank))
+        ⊎ ((old.strict ≡ true) × ((rank : ℕ) × (said.names ≡ names_rank rank)
+        × IsFirstWithoutBlocks old.shape (committed old) old.writes rank))
     pub passing : said.passing ≡ false

@@ -66,7 +66,8 @@ pub record StaysBegun {N : Type 0} (old new : StoreState N) : Type 0 where
   pub strict : new.strict ≡ old.strict
   pub tries : new.tries ≡ old.tries
   pub changes : new.changes ≡ old.changes
-  pub reads : (object : Place) (words : List ℕ) → words_at old.reads object ≡ Some words → words_at new.reads object ≡ Some words
+  pub reads : (object : Place) (words : List ℕ) → words_at old.reads object ≡ Some words
+      → words_at new.reads object ≡ Some words
 
 -- a try is lost, since something changed
 pub record LosesTry {N : Type 0} (old new : StoreState N) : Type 0 where

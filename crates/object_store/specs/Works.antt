@@ -40,11 +40,14 @@ module _ {N : Type 0} where
     pub aborted : Aborts old new
     -- nothing, an object that the call may reach, one that was read, one of a rank on which it makes one, or such a rank
     pub names : (said.names ≡ names_nothing)
-        ⊎ ((object : Place) × (said.names ≡ names_object object) × (Reached object ⊎ IsSome (words_at old.reads object) ⊎ Makes object.rank))
+        ⊎ ((object : Place) × (said.names ≡ names_object object)
+        × (Reached object ⊎ IsSome (words_at old.reads object) ⊎ Makes object.rank))
         ⊎ ((rank : ℕ) × (said.names ≡ names_rank rank) × Makes rank)
-    pub told : IsSome old.most → (said.for_memory ≡ true) ⊎ (said.passing ≡ true) ⊎ ((rank : ℕ) × (said.names ≡ names_rank rank) × Makes rank)
+    pub told : IsSome old.most → (said.for_memory ≡ true) ⊎ (said.passing ≡ true)
+        ⊎ ((rank : ℕ) × (said.names ≡ names_rank rank) × Makes rank)
     -- by a rank's name only where as many objects are made as the store tells
-    pub full : (most : ℕ → ℕ) (rank : ℕ) → old.most ≡ Some most → said.names ≡ names_rank rank → made_so_far old rank ≡ most rank
+    pub full : (most : ℕ → ℕ) (rank : ℕ) → old.most ≡ Some most → said.names ≡ names_rank rank
+        → made_so_far old rank ≡ most rank
     pub passing : OnlyReadPasses old new said
 
 module _ {N S E : Type 0} (fits : Shape → Entry N → Type 0) (state : S → StoreState N) (explains : S → S → E → Type 0) where
@@ -73,6 +76,7 @@ module _ {N S E : Type 0} (fits : Shape → Entry N → Type 0) (state : S → S
       pub explained_still : StaysExplained explains old new
 
     -- of either end
-    pub record Works {T : Type 0} (Reached : Shape → Place → Type 0) (Makes : Shape → ℕ → Type 0) (old new : S) (result : Result T E) : Type 0 where
+    pub record Works {T : Type 0} (Reached : Shape → Place → Type 0) (Makes : Shape → ℕ → Type 0)
+        (old new : S) (result : Result T E) : Type 0 where
       pub went : OnOk result (Went Reached Makes old new)
       pub fell : IfErr result (λ why. Fell Reached Makes old new why)

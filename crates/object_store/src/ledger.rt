@@ -51,7 +51,8 @@ impl<L: Law> Ledger<L> {
         note: &C,
     ) -> u64
         requires room { length self.old.seat.me.0.seen < 2 ^ 62 }
-        requires said { (entry : Entry L.Note) × (E.entry ≡ Some entry) × (L.fits self.old.seat.me.0.shape entry) × HasMaps entry × Agrees entry.reads (store_after self.old.seat.me.0.seen) }
+        requires said { (entry : Entry L.Note) × (E.entry ≡ Some entry) × (L.fits self.old.seat.me.0.shape entry)
+            × HasMaps entry × Agrees entry.reads (store_after self.old.seat.me.0.seen) }
         ensures placed { (entry : Entry L.Note) → E.entry ≡ Some entry → self.new.seat.me.0 ≡ account_with self.old.seat.me.0 entry }
         ensures table { self.new.seat.table_id ≡ self.old.seat.table_id }
         ensures number { result ≡ length self.old.seat.me.0.seen }

@@ -50,7 +50,8 @@ pub trait Store<L: Law> {
         ensures keeps { Continues L.fits (state self.old) (state self.new) }
         ensures done { IfOk result (λ _. Begins writing (state self.old) (state self.new)) }
         ensures refused { IfErr result (λ why. RefusesBegin writing (state self.old) (state self.new) (says why)) }
-        ensures lock_free { writing ≡ false → 0 < (state self.old).tries → (state self.new).takes ≡ (state self.old).takes }
+        ensures lock_free { writing ≡ false → 0 < (state self.old).tries →
+            (state self.new).takes ≡ (state self.old).takes }
         ensures explained { IfErr result (λ why. explains self.old self.new why) }
         ensures explained_still { StaysExplained explains self.old self.new };
 
@@ -113,15 +114,20 @@ pub trait Store<L: Law> {
         ensures explained_still { StaysExplained explains self.old self.new };
 
     /// A refusal is for memory exactly where it is what NoMemory turns into, and there is one such refusal.
-    ghost memory: { (none : NoMemory) (why : Self.Refused) → Self.Refused.from_gives none why → (says why).for_memory ≡ true };
+    ghost memory: { (none : NoMemory) (why : Self.Refused) →
+        Self.Refused.from_gives none why → (says why).for_memory ≡ true };
 
-    ghost memory_alone: { (none : NoMemory) (why : Self.Refused) → (says why).for_memory ≡ true → Self.Refused.from_gives none why };
+    ghost memory_alone: { (none : NoMemory) (why : Self.Refused) →
+        (says why).for_memory ≡ true → Self.Refused.from_gives none why };
 
-    ghost memory_is_one: { (one other : Self.Refused) → (says one).for_memory ≡ true → (says other).for_memory ≡ true → one ≡ other };
+    ghost memory_is_one: { (one other : Self.Refused) →
+        (says one).for_memory ≡ true → (says other).for_memory ≡ true → one ≡ other };
 
-    ghost memory_names_nothing: { (why : Self.Refused) → (says why).for_memory ≡ true → (says why).names ≡ names_nothing };
+    ghost memory_names_nothing: { (why : Self.Refused) →
+        (says why).for_memory ≡ true → (says why).names ≡ names_nothing };
 
     ghost memory_lasts: { (why : Self.Refused) → (says why).for_memory ≡ true → (says why).passing ≡ false };
 
-    ghost memory_is_explained: { (first last : Self) (why : Self.Refused) → (says why).for_memory ≡ true → explains first last why };
+    ghost memory_is_explained: { (first last : Self) (why : Self.Refused) →
+        (says why).for_memory ≡ true → explains first last why };
 }

@@ -36,7 +36,8 @@ pub record IsGone (shape : Shape) (other : Contents) (g h : Graph) (vertices : V
   pub isnt : ¬ IsOn shape h t.0 t.1
   pub empty : content_of other (place_in vertices edges t.0 t.1) ≡ []
 
-pub record IsChange (shape : Shape) (one other : Contents) (g : Graph) (vertices : VertexObjects) (edges : EdgeObjects) (h : Graph) (vertices_after : VertexObjects) (edges_after : EdgeObjects) (touched gone : List RankObject) : Type 0 where
+pub record IsChange (shape : Shape) (one other : Contents) (g : Graph) (vertices : VertexObjects) (edges : EdgeObjects)
+    (h : Graph) (vertices_after : VertexObjects) (edges_after : EdgeObjects) (touched gone : List RankObject) : Type 0 where
   pub vertex_keys : keys vertices_after ≡ keys h.vertices
   pub edge_keys : keys edges_after ≡ keys (heavy_edges h.edges)
   -- what was there and isn't gone is where it was

@@ -8,7 +8,8 @@ use Rattle.holder_codec.specs.Represents.{VertexObjects, EdgeObjects}
 use Rattle.object_view.specs.View.{IsOn, place_in}
 
 -- each object of a rank afterwards is one of before in its place, or it is in a place that was empty
-pub record ComeFrom (shape : Shape) (store : Contents) (g h : Graph) (vertices : VertexObjects) (edges : EdgeObjects) (vertices_after : VertexObjects) (edges_after : EdgeObjects) (rank : ℕ) (kept : Object → Bool) : Type 0 where
+pub record ComeFrom (shape : Shape) (store : Contents) (g h : Graph) (vertices : VertexObjects) (edges : EdgeObjects)
+    (vertices_after : VertexObjects) (edges_after : EdgeObjects) (rank : ℕ) (kept : Object → Bool) : Type 0 where
   pub reserved : (block : ℕ) → kept (Reserved block) ≡ true
   pub each : (object : Object) → IsOn shape h rank object →
       MatchBool (kept object)

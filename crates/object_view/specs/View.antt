@@ -45,8 +45,10 @@ reserved_words shape g vertices rank block =
 
 abbrev pub words_in : Shape → Graph → VertexObjects → EdgeObjects → ℕ → Object → List ℕ
 words_in shape g vertices edges rank (Reserved block) = reserved_words shape g vertices rank block
-words_in shape g vertices edges rank (OfVertex id) = option_map_or (λ vertex. vertex_words (holder_of g vertices edges id vertex)) (vertex_at g id) []
-words_in shape g vertices edges rank (OfHeavyEdge source ordinal) = option_map_or (edge_words g.types (record { source = source; ordinal = ordinal })) (edge_at g source ordinal) []
+words_in shape g vertices edges rank (OfVertex id) =
+    option_map_or (λ vertex. vertex_words (holder_of g vertices edges id vertex)) (vertex_at g id) []
+words_in shape g vertices edges rank (OfHeavyEdge source ordinal) =
+    option_map_or (edge_words g.types (record { source = source; ordinal = ordinal })) (edge_at g source ordinal) []
 
 pub record ObjectIsHeld (shape : Shape) (store : Contents) (g : Graph) (vertices : VertexObjects) (edges : EdgeObjects) (rank : ℕ) (object : Object) : Type 0 where
   pub place : IsAllowed shape rank object (place_in vertices edges rank object)

@@ -23,4 +23,5 @@ module _ {E K : Type 0} (key : E → K) where
     -- with an item, in its place by rising key
     abbrev pub with_item : E → List E → List E
     with_item item [] = item ∷ []
-    with_item item (other ∷ others) = by_order (R (key item) (key other)) (item ∷ other ∷ others) (item ∷ others) (other ∷ with_item item others)
+    with_item item (other ∷ others) =
+        by_order (R (key item) (key other)) (item ∷ other ∷ others) (item ∷ others) (other ∷ with_item item others)
