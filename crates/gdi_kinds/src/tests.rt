@@ -72,7 +72,8 @@ fn long_lists(rt: HostRuntime) -> Result<(), Fail> {
         list.push(n)?;
     }
     let copied = list.copy(rt.alloc())?;
-    assert_eq!(rt; (copied.len(), *copied.at(4999)), (5000, 4999));
+    assert_eq!(rt; copied.len(), 5000);
+    assert_eq!(rt; *copied.at(4999), 4999);
     Ok(())
 }
 
@@ -80,17 +81,11 @@ fn long_lists(rt: HostRuntime) -> Result<(), Fail> {
 fn sorts_of_calls(rt: HostRuntime) -> Result<(), Fail> {
     let alloc = rt.alloc();
     let calls = every_call(alloc)?;
-    let mut writing = 0;
-    let mut whole = 0;
-    for call in calls.as_slice() {
-        assert!(rt; !(call.is_writing() && call.is_whole()));
-        if call.is_writing() {
-            writing += 1;
-        }
-        if call.is_whole() {
-            whole += 1;
-        }
-    }
+    let calls = calls.as_slice();
+    let writing = calls.iter().filter(|call| call.is_writing()).count();
+    let whole = calls.iter().filter(|call| call.is_whole()).count();
+    let both = |call: &&Call| call.is_writing() && call.is_whole();
+    assert_eq!(rt; calls.iter().filter(both).count(), 0);
     assert_eq!(rt; (calls.len(), writing, whole), (35, 17, 6));
     let mut txn = Txn {
         whole: false,
