@@ -156,6 +156,7 @@ fn undirected_edge(rt: HostRuntime) -> Result<(), Fail> {
             &[1, 2, 0, 0, 2, one, 0, 2, AT, 0, other, 1, 2, AT, 0],
         )?;
         let vertex = VertexHolder::read(rt.alloc(), &words)?.ok_or("a vertex")?;
+        assert_eq!(rt; vertex.edges.len(), 2);
         let (undirected, directed) = (vertex.edges.at(0), vertex.edges.at(1));
         assert_eq!(rt; (undirected.inward, undirected.undirected), (inward, true));
         assert_eq!(rt; (directed.inward, directed.undirected), (inward, false));
