@@ -3,7 +3,5 @@
 
 mod compare;
 mod constraint;
-#[cfg(test)]
-mod tests;
 
 pub use constraint::passes;

@@ -10,8 +10,6 @@ mod out_sink;
 mod refused;
 mod shelf;
 mod sink;
-#[cfg(test)]
-mod tests;
 mod whole;
 
 pub use failed::Failed;

@@ -15,8 +15,6 @@ mod outcome;
 mod pair;
 mod prop_line;
 mod reply;
-#[cfg(test)]
-mod tests;
 mod text;
 mod txn;
 mod value;

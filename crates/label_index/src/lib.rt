@@ -4,8 +4,6 @@
 mod calls;
 mod laws;
 mod slot;
-#[cfg(test)]
-mod tests;
 
 pub use calls::add::add;
 pub use calls::remove::remove;

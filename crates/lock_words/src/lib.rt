@@ -3,8 +3,6 @@
 
 mod conflict;
 mod laws;
-#[cfg(test)]
-mod tests;
 mod want;
 
 pub use conflict::conflicts;

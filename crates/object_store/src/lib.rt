@@ -10,8 +10,6 @@ mod plain_refused;
 mod plain_store;
 mod rule;
 mod store;
-#[cfg(test)]
-mod tests;
 mod transaction;
 mod vacant;
 

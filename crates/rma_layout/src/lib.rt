@@ -5,8 +5,6 @@ mod dptr;
 mod geometry;
 mod laws;
 mod limits;
-#[cfg(test)]
-mod tests;
 mod word;
 
 pub use dptr::DPtr;
