@@ -1,10 +1,4 @@
-pub mod NumberLemmas
-pub mod FieldLemmas
-pub mod ValueLemmas
 pub mod CallLemmas
-pub mod TestLemmas
-pub mod WordLemmas
-pub mod LineLemmas
 pub mod StepLemmas
 pub mod ReadingLemmas
 pub mod PartLemmas

@@ -1,7 +1,7 @@
 -- A script of which a part has been read.
-use Rattle.std.proofs.Common.{◌≡◌, ◌≢◌, ℕ, ◌+◌, ◌<◌, ◌≤◌, Bool, true, false, not, cond, List, [], ◌∷◌, ◌++◌, map, length, refl, sym, ap, subst, ◌∙◌, append_assoc, length-append, arith, inl, inr}
+use Rattle.std.proofs.Common.{◌≡◌, ℕ, ◌+◌, ◌<◌, ◌≤◌, Bool, true, false, not, cond, List, [], ◌∷◌, ◌++◌, map, length, refl, sym, ap, subst, ◌∙◌, append_assoc, length-append, arith, inl, inr}
 use Rattle.std.specs.Prelude.{sum_by}
-use Rattle.std.specs.List.{flat_map, AllByRecursion, filter}
+use Rattle.std.specs.List.{AllByRecursion}
 use Rattle.std.proofs.lemmas.List.{append-nil, map-append}
 use Rattle.std.proofs.lemmas.List.Sums.{sum_by-append}
 use Rattle.std.proofs.lemmas.List.Elements.{filter-append}
@@ -10,13 +10,13 @@ use Rattle.gdi_kinds.specs.declared.txn.Txn.{Txn}
 use Rattle.script_text.specs.declared.stop.Stop.{Stop}
 use Rattle.script_text.specs.declared.stop.Stop.TheVariants as stop
 use Rattle.script_text.specs.declared.step.Step.{Step}
-use Rattle.script_text.specs.declared.step.Step.TheVariants as step
 use Rattle.script_text.specs.declared.place.Stage.{Stage}
 use Rattle.script_text.specs.declared.place.Stage.TheVariants as stage
 use Rattle.script_text.specs.declared.place.Place.{Place}
 use Rattle.script_text.specs.declared.script_reader.Reader.{Reader}
-use Rattle.script_text.specs.Scripts.{lines_of, is_skipped, counted, line_of, steps_of_section, steps_of_script, IsTxn, IsScript, Spells}
-use Rattle.script_text.specs.Faults.{start, Leads, IsFault, IsWrongLine, IsOpen, IsStep, OrNoMemory, IsFirstFault, AreGood, FaultIn, DoesStep}
+use Rattle.text_words.specs.Lines.{lines_of}
+use Rattle.script_text.specs.Scripts.{is_skipped, counted, line_of, steps_of_section, steps_of_script, IsTxn, Spells}
+use Rattle.script_text.specs.Faults.{start, IsFault, IsWrongLine, IsOpen, OrNoMemory, IsFirstFault, AreGood}
 use Rattle.script_text.specs.Reading.{TakesLine, PassesLine, StopsAt, TellsFault, refused_at, script_at}
 use Rattle.script_text.proofs.ReadingLemmas.{steps_in, IsReading, taken, step_adds}
 

@@ -1,7 +1,7 @@
 -- What has been read so far are the steps of the lines so far, and each line adds its step.
-use Rattle.std.proofs.Common.{◌≡◌, ◌≢◌, ℕ, ◌+◌, ◌<◌, ◌≤◌, Bool, true, false, not, cond, ltb, List, [], ◌∷◌, ◌++◌, map, length, refl, sym, ap, subst, ◌∙◌, append_assoc, length-append, arith, inl, inr}
+use Rattle.std.proofs.Common.{◌≡◌, ℕ, ◌+◌, ◌<◌, ◌≤◌, Bool, true, false, not, List, [], ◌∷◌, ◌++◌, map, length, refl, sym, ap, subst, ◌∙◌, append_assoc, length-append, arith}
 use Rattle.std.specs.Prelude.{sum_by, ◌&&◌, nat_lt, nat_le}
-use Rattle.std.specs.List.{flat_map, AllByRecursion, filter}
+use Rattle.std.specs.List.{AllByRecursion}
 use Rattle.std.proofs.lemmas.Bool.{ltb-true, leb-true, false≢true}
 use Rattle.std.proofs.lemmas.List.{append-nil, map-append}
 use Rattle.std.proofs.lemmas.List.Sums.{sum_by-append}
@@ -15,10 +15,11 @@ use Rattle.script_text.specs.declared.place.Stage.{Stage}
 use Rattle.script_text.specs.declared.place.Stage.TheVariants as stage
 use Rattle.script_text.specs.declared.place.Place.{Place}
 use Rattle.script_text.specs.declared.script_reader.Reader.{Reader}
-use Rattle.script_text.specs.Spelling.{IsCall, test_of, atoms_in}
-use Rattle.script_text.specs.Scripts.{steps_of_txn, steps_of_section, steps_of_script, IsHeld, IsTxn}
+use Rattle.script_text.specs.CallLines.{IsCall, test_of}
+use Rattle.text_words.specs.Spelling.{atoms_in}
+use Rattle.script_text.specs.Scripts.{steps_of_section, steps_of_script, IsHeld, IsTxn}
 use Rattle.script_text.specs.Faults.{IsStep, stands, is_within, after, start, Leads}
-use Rattle.script_text.specs.Reading.{with_step, txn_of}
+use Rattle.script_text.specs.Reading.{with_step}
 
 -- the steps that have been read
 abbrev pub steps_in : Stage → Reader → List Step

@@ -1,12 +1,12 @@
 -- The step that a line does.
-use Rattle.std.proofs.Common.{◌≡◌, ◌≢◌, ℕ, Bool, true, false, not, List, [], ◌∷◌, ◌++◌, map, Option, Some, None, inl, inr, refl, sym, ap, subst, ◌∙◌, append_assoc}
+use Rattle.std.proofs.Common.{◌≡◌, ◌≢◌, ℕ, Bool, true, false, not, List, [], ◌∷◌, ◌++◌, map, Option, Some, None, refl, sym, ap, subst, ◌∙◌}
 use Rattle.std.specs.Prelude.{codes}
 use Rattle.std.specs.List.{flat_map}
 use Rattle.std.proofs.lemmas.List.{append-nil}
 use Rattle.gdi_kinds.specs.Calls.{is_whole_call}
 use Rattle.gdi_kinds.specs.declared.call.Call.{Call}
-use Rattle.script_text.specs.declared.wrong.Wrong.{Wrong}
-use Rattle.script_text.specs.declared.wrong.Wrong.TheVariants as wrong
+use Rattle.text_words.specs.declared.wrong.Wrong.{Wrong}
+use Rattle.text_words.specs.declared.wrong.Wrong.TheVariants as wrong
 use Rattle.script_text.specs.declared.verb.Verb.{Verb}
 use Rattle.script_text.specs.declared.step.Step.{Step}
 use Rattle.script_text.specs.declared.step.Step.TheVariants as step
@@ -14,11 +14,13 @@ use Rattle.script_text.specs.declared.step.Head.{Head}
 use Rattle.script_text.specs.declared.step.Head.TheVariants as head
 use Rattle.script_text.specs.declared.place.Stage.{Stage}
 use Rattle.script_text.specs.declared.place.Stage.TheVariants as stage
-use Rattle.script_text.specs.Spelling.{Part, text_of, spaced, line_of_parts, parts_of, IsCall}
-use Rattle.script_text.specs.Words.{IsCut, IsOpening, AreBehind}
-use Rattle.script_text.specs.Forms.{IsCallOf, IsWrong, OrMemory, word_of, is_whole}
+use Rattle.text_words.specs.Spelling.{Part, text_of, spaced, line_of_parts}
+use Rattle.script_text.specs.CallLines.{parts_of}
+use Rattle.text_words.specs.Words.{IsCut, IsOpening, AreBehind}
+use Rattle.script_text.specs.Verbs.{word_of, is_whole}
+use Rattle.text_words.specs.Forms.{IsWrong, OrMemory}
 use Rattle.script_text.specs.Scripts.{line_of}
-use Rattle.script_text.specs.Faults.{head_text, may_stand, stands, form_behind, kind_of, stop_of, IsStep, IsStepOf, DoesStep, HasWords, IsClean, IsFault, OrNoMemory, AreFound, no_word, misplaced, ill_quoted, wrong_words}
+use Rattle.script_text.specs.Faults.{head_text, may_stand, stands, form_behind, stop_of, IsStep, IsStepOf, DoesStep, HasWords, IsClean, IsFault, OrNoMemory, AreFound, no_word, misplaced, ill_quoted, wrong_words}
 
 abbrev spaced_word : List ℕ → List ℕ
 spaced_word w = 32 ∷ w

@@ -1,10 +1,10 @@
 -- What is wrong with a line of a script, and which line is the first wrong one.
-use Rattle.std.specs.Prelude.{◌≡◌, ◌≢◌, ℕ, ◌+◌, Bool, true, false, ◌&&◌, ◌⊎◌, IsTrue, IsUtf8, List, [], ◌∷◌, ◌++◌, map, length, codes, Option, Some, None, not, nat_lt, nat_le}
+use Rattle.std.specs.Prelude.{◌≡◌, ◌≢◌, ℕ, ◌+◌, Bool, true, false, ◌&&◌, ◌⊎◌, IsTrue, IsUtf8, List, [], ◌∷◌, ◌++◌, map, length, codes, Option, not, nat_lt, nat_le}
 use Rattle.std.specs.List.{list_all, AllByRecursion}
 use Rattle.gdi_kinds.specs.Texts.{is_printable}
 use Rattle.gdi_kinds.specs.Calls.{is_whole_call}
-use Rattle.script_text.specs.declared.wrong.Wrong.{Wrong}
-use Rattle.script_text.specs.declared.wrong.Wrong.TheVariants as wrong
+use Rattle.text_words.specs.declared.wrong.Wrong.{Wrong}
+use Rattle.text_words.specs.declared.wrong.Wrong.TheVariants as wrong
 use Rattle.script_text.specs.declared.stop.Stop.{Stop}
 use Rattle.script_text.specs.declared.stop.Stop.TheVariants as stop
 use Rattle.script_text.specs.declared.step.Step.{Step}
@@ -14,10 +14,13 @@ use Rattle.script_text.specs.declared.step.Head.TheVariants as head
 use Rattle.script_text.specs.declared.place.Stage.{Stage}
 use Rattle.script_text.specs.declared.place.Stage.TheVariants as stage
 use Rattle.script_text.specs.declared.place.Place.{Place}
-use Rattle.script_text.specs.Spelling.{IsCall, test_of, atoms_in}
-use Rattle.script_text.specs.Words.{IsOpening, AreBehind}
-use Rattle.script_text.specs.Forms.{Form, ends, IsWrong, IsCallOf, form_of, word_of, is_whole}
-use Rattle.script_text.specs.Scripts.{lines_of, is_skipped, counted, line_of}
+use Rattle.script_text.specs.CallLines.{IsCall, test_of}
+use Rattle.text_words.specs.Spelling.{atoms_in}
+use Rattle.text_words.specs.Words.{IsOpening, AreBehind}
+use Rattle.text_words.specs.Forms.{Form, ends, IsWrong}
+use Rattle.script_text.specs.Verbs.{IsCallOf, form_of, word_of, is_whole}
+use Rattle.text_words.specs.Lines.{lines_of}
+use Rattle.script_text.specs.Scripts.{is_skipped, counted, line_of}
 
 abbrev pub head_text : Head → List ℕ
 head_text head.Section = codes "section"

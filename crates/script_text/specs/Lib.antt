@@ -1,10 +1,6 @@
-pub mod Spelling
+pub mod CallLines
+pub mod Verbs
 pub mod Scripts
-pub mod Numbers
 pub mod Shown
-pub mod Forms
-pub mod Awaited
-pub mod Words
 pub mod Faults
 pub mod Reading
-pub mod Outputs

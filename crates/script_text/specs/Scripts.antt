@@ -1,22 +1,14 @@
 -- Scripts as lines.
-use Rattle.std.specs.Prelude.{◌≡◌, ℕ, ◌≤◌, Bool, true, false, not, List, [], ◌∷◌, ◌++◌, map, length, sum_by, codes, if◌then◌else◌, ◌==◌}
+use Rattle.std.specs.Prelude.{◌≡◌, ℕ, ◌≤◌, Bool, true, false, not, List, [], ◌∷◌, ◌++◌, map, length, sum_by, codes, ◌==◌}
 use Rattle.std.specs.List.{filter, flat_map, AllByRecursion}
 use Rattle.gdi_kinds.specs.Calls.{is_whole_call}
 use Rattle.gdi_kinds.specs.declared.call.Call.{Call}
 use Rattle.gdi_kinds.specs.declared.txn.Txn.{Txn}
+use Rattle.text_words.specs.Lines.{lines_of}
 use Rattle.script_text.specs.declared.step.Step.{Step}
 use Rattle.script_text.specs.declared.step.Step.TheVariants.{Section, Begin, Does, Close}
-use Rattle.script_text.specs.Spelling.{line_of_call, IsCall, test_of, atoms_in}
-
--- a byte in front of the first line
-abbrev pub before_first : ℕ → List (List ℕ) → List (List ℕ)
-before_first byte [] = (byte ∷ []) ∷ []
-before_first byte (line ∷ lines) = (byte ∷ line) ∷ lines
-
--- the lines of a text: each ends with LF, which the last may lack
-abbrev pub lines_of : List ℕ → List (List ℕ)
-lines_of [] = []
-lines_of (byte ∷ bytes) = if byte == 10 then [] ∷ lines_of bytes else before_first byte (lines_of bytes)
+use Rattle.script_text.specs.CallLines.{line_of_call, IsCall, test_of}
+use Rattle.text_words.specs.Spelling.{atoms_in}
 
 -- an empty line, and one that begins with `#`
 abbrev pub is_skipped : List ℕ → Bool

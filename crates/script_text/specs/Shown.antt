@@ -4,7 +4,7 @@ use Rattle.script_text.specs.declared.call_printer.Field.{Field}
 use Rattle.script_text.specs.declared.call_printer.Field.TheVariants as field
 use Rattle.script_text.specs.declared.call_printer.End.{End}
 use Rattle.script_text.specs.declared.call_printer.End.TheVariants as end
-use Rattle.script_text.specs.Spelling.{Part, word, number, name, constant, kind_text, dir_text, scope_part, many_parts, label_parts, test_parts}
+use Rattle.text_words.specs.Spelling.{Part, word, number, name, constant, kind_text, dir_text, scope_part, many_parts, label_parts, test_parts}
 
 abbrev pub field_parts : Field → List Part
 field_parts field.Nothing = []

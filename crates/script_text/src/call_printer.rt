@@ -1,11 +1,11 @@
 ghost use Rattle.std.specs.Prelude.{◌≡◌, ◌++◌, ◌∷◌, [], OnOk};
 ghost use Rattle.std.specs.List.{flat_map, AllByRecursion};
-ghost use Rattle.script_text.specs.Spelling.{word, spaced, line_of_call, parts_of, IsPart};
+ghost use Rattle.text_words.specs.Spelling.{word, spaced, IsPart};
+ghost use Rattle.script_text.specs.CallLines.{line_of_call, parts_of};
 ghost use Rattle.script_text.specs.Shown.{field_parts, fields_before, end_parts};
 
-use crate::test_printer::print_test;
-use crate::word_printer::{dir_word, kind_word, print_name, print_number, print_value};
 use gdi_kinds::{Call, Dir, Kind, Name, NoMemory, Test, Value};
+use text_words::{dir_word, kind_word, print_name, print_number, print_test, print_value};
 
 /// Writes the line of a call, without its LF.
 pub(crate) fn print_call(out: &mut Vec<u8>, call: &Call) -> Result<(), NoMemory>

@@ -1,12 +1,13 @@
 ghost use Rattle.std.specs.Prelude.{◌∷◌, MatchResult};
-ghost use Rattle.script_text.specs.Spelling.{parts_of, HasAtoms, test_of};
-ghost use Rattle.script_text.specs.Forms.{IsCallOf, IsWrong, OrMemory, form_of, texts};
+ghost use Rattle.script_text.specs.CallLines.{parts_of, test_of};
+ghost use Rattle.text_words.specs.Spelling.{HasAtoms};
+ghost use Rattle.script_text.specs.Verbs.{IsCallOf, form_of};
+ghost use Rattle.text_words.specs.Forms.{IsWrong, OrMemory, texts};
 
-use crate::fields::read_fields;
 use crate::verb::Verb;
-use crate::wrong::Wrong;
 use gdi_kinds::Call;
 use std::alloc::Global;
+use text_words::{Wrong, read_fields};
 
 /// The call of a verb that the words behind it spell.
 #[tactic(auto, using(crate::proofs::CallLemmas::call_is))]

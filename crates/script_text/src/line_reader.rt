@@ -1,18 +1,17 @@
 ghost use Rattle.std.specs.Prelude.{◌≡◌, List, ℕ, true, MatchResult, MatchOption, Option, IfOk};
 ghost use Rattle.std.specs.Option.{option_copied};
-ghost use Rattle.script_text.specs.Forms.{IsWrong, OrMemory, texts};
-ghost use Rattle.script_text.specs.Words.{AreBehind, IsOpening};
+ghost use Rattle.text_words.specs.Forms.{IsWrong, OrMemory, texts};
+ghost use Rattle.text_words.specs.Words.{AreBehind, IsOpening};
 ghost use Rattle.script_text.specs.Faults.{IsClean, IsFault, DoesStep, HasWords, IsStepOf, OrNoMemory, AreFound, form_behind, stop_of};
 
 use crate::bytes::is_clean;
 use crate::call_reader::call_of;
-use crate::line_words::{cut, opening_of};
 use crate::place::{Stage, may_stand};
 use crate::step::{Head, Step, head_of};
 use crate::stop::Stop;
-use crate::wrong::Wrong;
 use gdi_kinds::NoMemory;
 use std::alloc::Global;
+use text_words::{Wrong, cut, opening_of};
 
 /// The step that a line does, the limits apart. `words` is room for the line's words.
 pub(crate) fn step_of<'a>(

@@ -1,6 +1,7 @@
 ghost use Rattle.std.specs.Prelude.{◌≡◌, true, nat_le, length, sum_by};
 ghost use Rattle.script_text.specs.Faults.{may_stand, is_within, after};
-ghost use Rattle.script_text.specs.Spelling.{atoms_in, test_of};
+ghost use Rattle.text_words.specs.Spelling.{atoms_in};
+ghost use Rattle.script_text.specs.CallLines.{test_of};
 
 use crate::step::{Head, Step};
 use gdi_kinds::{Call, Test};

@@ -3,13 +3,14 @@ ghost use Rattle.script_text.specs.Scripts.{Spells};
 ghost use Rattle.script_text.specs.Faults.{IsWrongLine, IsOpen, OrNoMemory, start};
 ghost use Rattle.script_text.specs.Reading.{TakesLine, PassesLine, StopsAt, TellsFault, refused_at, with_step, script_at};
 
-use crate::bytes::{first_line, is_skipped};
+use crate::bytes::is_skipped;
 use crate::line_reader::step_of;
 use crate::place::{Place, Stage};
 use crate::step::Step;
 use crate::stop::Stop;
 use gdi_kinds::{CallList, NoMemory, Script, Section, Txn};
 use std::alloc::Global;
+use text_words::first_line;
 
 /// Why a text is refused as a script.
 #[derive(Clone, Copy, Debug, PartialEq, Eq)]

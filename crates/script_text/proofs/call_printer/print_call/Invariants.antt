@@ -1,6 +1,7 @@
 use Rattle.std.proofs.Common.{◌≡◌, ◌++◌, drop}
 use Rattle.std.specs.List.{flat_map, AllByRecursion}
-use Rattle.script_text.specs.Spelling.{spaced, line_of_call, parts_of, IsPart}
+use Rattle.text_words.specs.Spelling.{spaced, IsPart}
+use Rattle.script_text.specs.CallLines.{line_of_call, parts_of}
 use Rattle.script_text.specs.Shown.{fields_before, end_parts}
 use Rattle.script_text.proofs.call_printer.print_call.Given as goal
 

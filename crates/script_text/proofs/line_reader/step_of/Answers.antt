@@ -1,4 +1,4 @@
-use Rattle.std.proofs.Common.{rules, ap, sym, not, ◌∙◌}
+use Rattle.std.proofs.Common.{rules}
 use Rattle.script_text.specs.Faults.{IsClean}
 use Rattle.script_text.proofs.StepLemmas.{has_no_word, is_misplaced, is_ill_quoted, has_wrong_words, is_step}
 use Rattle.script_text.proofs.line_reader.step_of.Goals as goal

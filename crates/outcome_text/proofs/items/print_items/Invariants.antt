@@ -1,0 +1,7 @@
+use Rattle.std.proofs.Common.{◌≡◌, ◌++◌, drop, map}
+use Rattle.outcome_text.specs.Outputs.{items_text}
+use Rattle.outcome_text.proofs.items.print_items.Given as goal
+
+-- the items so far and those of the rest are all
+abbrev pub invariant-loop-item : goal.invariant-loop-item
+invariant-loop-item g l = l.out.items ++ items_text (map g.T.Item.text (drop l.item-index l.items)) ≡ l.fn.out.items ++ items_text (map g.T.Item.text l.items)

@@ -1,5 +1,0 @@
-use Rattle.script_text.proofs.WordLemmas.{plain_first}
-use Rattle.script_text.proofs.line_words.plain_word.Goals as goal
-
-pub returns : goal.returns
-returns c = plain_first c.args.line.now _ _ c.requires c.opening_of.ensures

@@ -1,0 +1,11 @@
+use Rattle.text_words.proofs.WordLemmas.{not_closed, not_behind, quoted_first}
+use Rattle.text_words.proofs.line_words.quoted_word.Goals as goal
+
+pub returns-in_err-rest : goal.returns-in_err-rest
+returns-in_err-rest c = rw c.from_residual.ensures (not_closed c.args.line.now c.args.quoted.now c.requires c.in_err-rest.ensures)
+
+pub returns-in_err-behind : goal.returns-in_err-behind
+returns-in_err-behind c = rw c.from_residual-in_err-behind.ensures (not_behind c.args.line.now c.args.quoted.now c.in_ok-rest.rest.now c.requires c.in_ok-rest.ensures c.in_err-behind.ensures)
+
+pub returns : goal.returns
+returns c = quoted_first c.args.line.now c.args.quoted.now c.in_ok-rest.rest.now _ c.requires c.in_ok-rest.ensures c.in_ok-behind.ensures
