@@ -9,7 +9,7 @@ ghost use Rattle.gdi_run.specs.OutputText.{HasWords};
 ghost use Rattle.gdi_run.specs.Serial.{RunsOn, RunsOne, ends};
 
 use gdi_kinds::{Line, LineList, NoMemory, Outcome, Printed, ReplyList, Script, Section, Txn};
-use graph_model::{ModelRefused, PlainGraph};
+use plain_graph::{ModelRefused, PlainGraph};
 use rma_layout::Geometry;
 use std::alloc::Global;
 

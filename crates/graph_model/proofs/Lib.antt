@@ -2,9 +2,7 @@ pub mod Sums
 pub mod MapSums
 pub mod Counting
 pub mod Sets
-pub mod OrderedMaps
 pub mod VertexSteps
-pub mod BucketCounts
 pub mod Bare
 pub mod Room
 pub mod Steps

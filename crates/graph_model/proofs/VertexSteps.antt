@@ -1,5 +1,5 @@
 -- What the calls that make, drop and ask for vertices do to graphs of vertices alone.
-use Rattle.std.proofs.Common.{◌≡◌, ℕ, Bool, true, false, ◌||◌, if◌then◌else◌, ap, sym}
+use Rattle.std.proofs.Common.{◌≡◌, ℕ, Bool, true, false, ◌||◌, if◌then◌else◌, List, [], ◌∷◌, refl, ap, sym, arith}
 use Rattle.gdi_kinds.specs.declared.call.Call.TheVariants.{Vertex as MakeVertex, Has, DropVertex}
 use Rattle.gdi_kinds.specs.declared.reply.Reply.TheVariants as reply
 use Rattle.rma_layout.specs.Shape.{Shape}
@@ -9,7 +9,11 @@ use Rattle.graph_model.specs.Graph.{Vertex, new_vertex}
 use Rattle.graph_model.specs.Sizes.{words_of_bucket, is_too_large}
 use Rattle.graph_model.specs.Calls.{answer_to}
 use Rattle.graph_model.specs.Bare.{graph_of_vertices}
-use Rattle.graph_model.proofs.OrderedMaps.{without-absent}
+use Rattle.std.proofs.lemmas.Bool.Decides.{nat_tests}
+
+pub without-absent : {X : Type 0} (k : ℕ) (es : Map ℕ X) → is_there es k ≡ false → without es k ≡ es
+without-absent k [] absent = refl
+without-absent k (e ∷ es) absent = grind (arith, nat_tests, without-absent k es)
 
 -- whether the bucket of a vertex would be too large with it
 abbrev pub is_bucket_full : Shape → Map ℕ Vertex → ℕ → Bool

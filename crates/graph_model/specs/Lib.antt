@@ -18,7 +18,6 @@ pub mod History
 pub mod LegalRun
 pub mod MovedPlaces
 pub mod Bare
-pub mod Plain
 pub mod Examples
 pub mod LegalExamples
 pub mod Laws

@@ -4,7 +4,7 @@ ghost use Rattle.gdi_kinds.specs.declared.call.Call.TheVariants as call;
 ghost use Rattle.rma_layout.specs.Placement.{bucket_of, raw_of};
 ghost use Rattle.graph_model.specs.Graph.{empty_graph};
 ghost use Rattle.graph_model.specs.Bare.{IsBareCall};
-ghost use Rattle.graph_model.specs.Plain.{count_of};
+ghost use Rattle.plain_graph.specs.Plain.{count_of};
 ghost use Rattle.graph_model.specs.Calls.{graph_after_call, reply_to};
 ghost use Rattle.graph_model.specs.Transactions.{graph_after_calls, graph_after_txn, replies_to, replies_to_calls};
 
@@ -35,12 +35,12 @@ pub struct PlainGraph {
 }
 
 impl Model for PlainGraph {
-    ghost use Rattle.graph_model.specs.Plain.{Plain};
+    ghost use Rattle.plain_graph.specs.Plain.{Plain};
 
     ghost Value = { Plain };
 
     ghost use Rattle.graph_model.specs.Bare.{graph_of_vertices};
-    ghost use Rattle.graph_model.specs.Plain.{CountsBuckets};
+    ghost use Rattle.plain_graph.specs.Plain.{CountsBuckets};
 
     ghost view = { λ plain. record { shape = plain.geometry; graph = graph_of_vertices plain.vertices.entries } };
 

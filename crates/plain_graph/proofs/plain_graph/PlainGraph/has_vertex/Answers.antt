@@ -1,8 +1,8 @@
 use Rattle.std.proofs.Common.{true, false, is_some, sym, ap, ◌∙◌}
 use Rattle.graph_model.specs.Steps.{Answer}
-use Rattle.graph_model.proofs.OrderedMaps.{lookup-at}
+use Rattle.plain_graph.proofs.OrderedMaps.{lookup-at}
 use Rattle.graph_model.proofs.VertexSteps.{answer_to-has}
-use Rattle.graph_model.proofs.plain_graph.PlainGraph.has_vertex.Goals as goal
+use Rattle.plain_graph.proofs.plain_graph.PlainGraph.has_vertex.Goals as goal
 
 pub returns-in-Some : goal.returns-in-Some
 returns-in-Some c =

@@ -14,9 +14,9 @@ use Rattle.rma_layout.specs.Placement.{Place, same_place, raw_of, FitsOneWord, b
 use Rattle.graph_model.specs.Maps.{Map, at, is_there, with_at}
 use Rattle.graph_model.specs.Graph.{Vertex, new_vertex}
 use Rattle.graph_model.specs.Sizes.{is_too_large}
-use Rattle.graph_model.specs.Plain.{led_to_by, count_of, CountsBuckets}
+use Rattle.plain_graph.specs.Plain.{led_to_by, count_of, CountsBuckets}
 use Rattle.graph_model.proofs.Sets.{is_eq-nat_cmp}
-use Rattle.graph_model.proofs.OrderedMaps.{insert_entry-with_at, count_by-with_at, count_by-remove_entry}
+use Rattle.plain_graph.proofs.OrderedMaps.{insert_entry-with_at, count_by-with_at, count_by-remove_entry}
 use Rattle.graph_model.proofs.VertexSteps.{is_bucket_full}
 
 -- the pointer to a vertex's bucket

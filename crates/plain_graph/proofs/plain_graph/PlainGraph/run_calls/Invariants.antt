@@ -2,7 +2,7 @@ use Rattle.std.proofs.Common.{◌≡◌, ◌++◌, drop}
 use Rattle.std.specs.List.{AllByRecursion}
 use Rattle.graph_model.specs.Transactions.{graph_after_calls, replies_to_calls}
 use Rattle.graph_model.specs.Bare.{IsBareCall}
-use Rattle.graph_model.proofs.plain_graph.PlainGraph.run_calls.Given as goal
+use Rattle.plain_graph.proofs.plain_graph.PlainGraph.run_calls.Given as goal
 
 abbrev pub invariant-loop-call : goal.invariant-loop-call
 invariant-loop-call l = record {

@@ -4,13 +4,13 @@ use Rattle.gdi_kinds.specs.declared.call.Call.TheVariants.{DropVertex}
 use Rattle.gdi_kinds.specs.declared.reply.Reply.TheVariants.{Done, NoVertex}
 use Rattle.graph_model.specs.Maps.{is_there, without}
 use Rattle.graph_model.specs.Bare.{graph_of_vertices}
-use Rattle.graph_model.specs.Plain.{Plain}
+use Rattle.plain_graph.specs.Plain.{Plain}
 use Rattle.graph_model.specs.Steps.{Answer}
 use Rattle.graph_model.specs.Calls.{answer_to}
-use Rattle.graph_model.proofs.OrderedMaps.{lookup-at, removed}
+use Rattle.plain_graph.proofs.OrderedMaps.{lookup-at, removed}
 use Rattle.graph_model.proofs.VertexSteps.{answer_to-drop}
-use Rattle.graph_model.proofs.BucketCounts.{counts_lowered, some_counted}
-use Rattle.graph_model.proofs.plain_graph.PlainGraph.drop_vertex.Goals as goal
+use Rattle.plain_graph.proofs.BucketCounts.{counts_lowered, some_counted}
+use Rattle.plain_graph.proofs.plain_graph.PlainGraph.drop_vertex.Goals as goal
 
 -- ---- an absent vertex
 

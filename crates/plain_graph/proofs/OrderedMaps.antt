@@ -14,6 +14,7 @@ use Rattle.std.proofs.lemmas.List.{append_assoc}
 use Rattle.std.proofs.lemmas.List.Sums.{sum_by-cons}
 use Rattle.std.proofs.lemmas.Map.Keys.{sorted_head, sorted_tail}
 use Rattle.graph_model.specs.Maps.{Map, at, is_there, with_at, without}
+use Rattle.graph_model.proofs.VertexSteps.{without-absent}
 
 in_middle : {K X : Type 0} (P : K → Type 0) (es : List (K × X)) (k : K) (x : X) (rest : List (K × X)) → AllByRecursion P (keys_of (es ++ (k, x) ∷ rest)) → P k
 in_middle P [] k x rest all = all.0
@@ -47,10 +48,6 @@ module _ {X : Type 0} where
         | Equal ↦ refl
         | Greater ↦ ap (λ later. e ∷ later) (insert_entry-with_at k x es)
       ]
-
-  pub without-absent : (k : ℕ) (es : Map ℕ X) → is_there es k ≡ false → without es k ≡ es
-  without-absent k [] absent = refl
-  without-absent k (e ∷ es) absent = grind (arith, nat_tests, without-absent k es)
 
   remove_entry-without : (k : ℕ) (es : Map ℕ X) → is_there (remove_entry (is_at (nat_cmp k)) es) k ≡ false → remove_entry (is_at (nat_cmp k)) es ≡ without es k
   remove_entry-without k [] absent = refl

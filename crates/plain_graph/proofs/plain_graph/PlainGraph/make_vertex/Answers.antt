@@ -4,13 +4,13 @@ use Rattle.gdi_kinds.specs.declared.reply.Reply.TheVariants.{Done, Exists, TooLa
 use Rattle.graph_model.specs.Maps.{is_there, with_at}
 use Rattle.graph_model.specs.Graph.{new_vertex}
 use Rattle.graph_model.specs.Bare.{graph_of_vertices}
-use Rattle.graph_model.specs.Plain.{Plain, CountsBuckets}
+use Rattle.plain_graph.specs.Plain.{Plain, CountsBuckets}
 use Rattle.graph_model.specs.Steps.{Answer}
 use Rattle.graph_model.specs.Calls.{answer_to}
-use Rattle.graph_model.proofs.OrderedMaps.{lookup-at, insert_entry-with_at}
+use Rattle.plain_graph.proofs.OrderedMaps.{lookup-at, insert_entry-with_at}
 use Rattle.graph_model.proofs.VertexSteps.{answer_to-vertex}
-use Rattle.graph_model.proofs.BucketCounts.{counts_held, counts_raised, bucket_is_full, bucket_has_room}
-use Rattle.graph_model.proofs.plain_graph.PlainGraph.make_vertex.Goals as goal
+use Rattle.plain_graph.proofs.BucketCounts.{counts_held, counts_raised, bucket_is_full, bucket_has_room}
+use Rattle.plain_graph.proofs.plain_graph.PlainGraph.make_vertex.Goals as goal
 
 -- ---- a vertex that is there
 

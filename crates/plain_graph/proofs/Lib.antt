@@ -1,0 +1,2 @@
+pub mod OrderedMaps
+pub mod BucketCounts

@@ -1,0 +1,12 @@
+//! A plain program that does the sequential property graph's calls, over ordered maps.
+#![tactic(auto)]
+
+mod held_vertex;
+mod map_copy;
+mod plain_graph;
+mod refused;
+#[cfg(test)]
+mod tests;
+
+pub use plain_graph::PlainGraph;
+pub use refused::ModelRefused;
