@@ -40,6 +40,13 @@ impl<T> ListOf<T> {
         ListOf { items }
     }
 
+    /// The items as a vector, in their order. It takes no memory.
+    pub fn into_vec(self) -> Vec<T>
+        ensures { result.items ≡ self }
+    {
+        self.items
+    }
+
     /// How many items there are.
     pub fn len(&self) -> usize
         ensures { result ≡ length self.now }

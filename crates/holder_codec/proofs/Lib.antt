@@ -16,3 +16,4 @@ pub mod OneGraph
 pub mod Parts
 pub mod SizesAreLengths
 pub mod Indexes
+pub mod MetaLaws

@@ -92,7 +92,7 @@ AreBytes-continued (b ∷ bs) all =
     let parts = and_parts (continues_name b) (list_all continues_name bs) all in
     (is_byte b parts.0, AreBytes-continued bs parts.1)
 
-IsBytes-name : (name : Name) → IsName name → IsBytes name
+pub IsBytes-name : (name : Name) → IsName name → IsBytes name
 IsBytes-name [] is = absurd cc
 IsBytes-name (b ∷ bs) is =
     let parts = and_parts (begins_name b && list_all continues_name bs) (leb (length bs) 62) is in

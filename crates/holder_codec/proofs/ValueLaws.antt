@@ -104,12 +104,12 @@ text_again bytes rest text = rw (bytes_again bytes rest (IsBytes-utf8 bytes text
 
 -- ---- small numbers
 
-bool_of_is : (n : ℕ) (b : Bool) → bool_of n ≡ Some b → n ≡ from_bool b
+pub bool_of_is : (n : ℕ) (b : Bool) → bool_of n ≡ Some b → n ≡ from_bool b
 bool_of_is zero b e = ap from_bool (some_is false b e)
 bool_of_is (suc zero) b e = ap from_bool (some_is true b e)
 bool_of_is (suc (suc n)) b e = absurd cc
 
-bool_of_again : (b : Bool) → bool_of (from_bool b) ≡ Some b
+pub bool_of_again : (b : Bool) → bool_of (from_bool b) ≡ Some b
 bool_of_again true = refl
 bool_of_again false = refl
 
@@ -136,7 +136,7 @@ narrow_is n m e =
 pub narrow_again : (n : ℕ) → n < 2 ^ 32 → narrow n ≡ Some n
 narrow_again n lt = rw (lt-ltb n (2 ^ 32) lt) refl
 
-kind_of_code_is : (n : ℕ) (k : Kind) → kind_of_code n ≡ Some k → n ≡ kind_code k
+pub kind_of_code_is : (n : ℕ) (k : Kind) → kind_of_code n ≡ Some k → n ≡ kind_code k
 kind_of_code_is zero k e = ap kind_code (some_is kind.Int k e)
 kind_of_code_is (suc zero) k e = ap kind_code (some_is kind.Bool k e)
 kind_of_code_is (suc (suc zero)) k e = ap kind_code (some_is kind.Text k e)

@@ -6,6 +6,7 @@ pub mod Bucket
 pub mod Vertex
 pub mod Holders
 pub mod Index
+pub mod Meta
 pub mod Reading
 pub mod Represents
 pub mod Parts

@@ -1,15 +1,16 @@
 -- Reading words from left to right: a value and the words after it, or nothing where no such value is spelled. These are
 -- the steps of the private readers, whose contracts alone cite this page. What `read` promises is said by the spellings.
-use Rattle.std.specs.Prelude.{◌≡◌, ℕ, ◌-◌, ◌/◌, ◌%◌, ◌^◌, ◌<◌, slice_index, zero, suc, Bool, true, false, ◌&&◌, List, [], ◌∷◌, length, take, drop, Option, Some, None, Result, Ok, Err, nat_lt, nat_le, ◌==◌, if◌then◌else◌}
-use Rattle.std.specs.List.{flat_map, list_all}
+use Rattle.std.specs.Prelude.{◌≡◌, ℕ, ◌-◌, ◌/◌, ◌%◌, ◌^◌, ◌<◌, slice_index, zero, suc, Bool, true, false, ◌&&◌, List, [], ◌∷◌, length, take, drop, map, not, Option, Some, None, Result, Ok, Err, nat_lt, nat_le, ◌==◌, if◌then◌else◌}
+use Rattle.std.specs.List.{flat_map, list_all, list_any}
 use Rattle.std.specs.Int.{w64, cast_signed, to_le_bytes}
-use Rattle.std.specs.Str.{is_utf8}
+use Rattle.std.specs.Str.{is_utf8, bytes_eq}
 use Rattle.gdi_kinds.specs.declared.text.Unfit.{Unfit}
 use Rattle.gdi_kinds.specs.declared.text.Unfit.TheVariants as unfit
 use Rattle.gdi_kinds.specs.declared.value.Value.{Value}
 use Rattle.gdi_kinds.specs.declared.value.Value.TheVariants as value
 use Rattle.gdi_kinds.specs.declared.value.Kind.{Kind}
 use Rattle.gdi_kinds.specs.declared.value.Kind.TheVariants as kind
+use Rattle.gdi_kinds.specs.Names.{is_name}
 use Rattle.gdi_kinds.specs.Texts.{is_printable}
 use Rattle.rma_layout.specs.Placement.{Place}
 use Rattle.object_words.specs.Chains.{place_of}
@@ -25,6 +26,8 @@ use Rattle.holder_codec.specs.declared.unread.Unread.{Unread}
 use Rattle.holder_codec.specs.declared.unread.Unread.TheVariants.{NotSpelled, NoMemory}
 use Rattle.holder_codec.specs.declared.index_entry.IndexEntry.{IndexEntry}
 use Rattle.holder_codec.specs.declared.index_holder.IndexHolder.{IndexHolder}
+use Rattle.holder_codec.specs.declared.type_line.TypeLine.{TypeLine}
+use Rattle.holder_codec.specs.declared.meta_holder.MetaHolder.{MetaHolder}
 use Rattle.holder_codec.specs.Order.{is_rising}
 use Rattle.holder_codec.specs.Values.{is_prop_before}
 use Rattle.holder_codec.specs.Edges.{is_record_before}
@@ -183,6 +186,26 @@ pair_at words = do
   id ← number_at label.1
   Some (record { label = label.0; id = id.0 }, id.1)
 
+-- a name of so many bytes as the first word says
+unfoldable pub name_at : List ℕ → Option (List ℕ × List ℕ)
+name_at words = do
+  size ← number_at words
+  bytes ← bytes_at size.0 size.1
+  if is_name bytes.0 then Some bytes else None
+
+unfoldable pub type_at : List ℕ → Option (TypeLine × List ℕ)
+type_at words = do
+  head ← number_at words
+  many ← bool_of (head.0 / 4)
+  kind ← kind_of_code (head.0 % 4)
+  name ← name_at head.1
+  Some (record { name = name.0; kind = kind; many = many }, name.1)
+
+-- no name stands twice
+abbrev pub are_distinct : List (List ℕ) → Bool
+are_distinct [] = true
+are_distinct (name ∷ names) = not (list_any (bytes_eq name) names) && are_distinct names
+
 -- ---- holders, of all of the words
 
 unfoldable pub vertex_of_words : List ℕ → Option VertexHolder
@@ -206,3 +229,15 @@ unfoldable pub index_of_words : List ℕ → Option IndexHolder
 index_of_words words = do
   entries ← rising_at pair_at is_pair_before (length words / 2) words
   if length entries.1 == 0 then Some (record { entries = entries.0 }) else None
+
+abbrev pub stand_once : MetaHolder → Bool
+stand_once meta = are_distinct meta.labels && are_distinct (map (λ line. line.name) meta.types)
+
+-- no words, or how many labels and types there are, and these
+unfoldable pub meta_of_words : List ℕ → Option MetaHolder
+meta_of_words [] = Some (record { labels = []; types = [] })
+meta_of_words (word ∷ words) = do
+  types_count ← number_at words
+  labels ← many_at name_at word types_count.1
+  types ← many_at type_at types_count.0 labels.1
+  if length types.1 == 0 && not (word == 0 && types_count.0 == 0) && stand_once (record { labels = labels.0; types = types.0 }) then Some (record { labels = labels.0; types = types.0 }) else None

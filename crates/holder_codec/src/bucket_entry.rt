@@ -2,7 +2,7 @@ ghost use Rattle.std.specs.Prelude.{◌≡◌};
 ghost use Rattle.holder_codec.specs.Bucket.{EntryFits, entry_words, is_entry_before};
 ghost use Rattle.holder_codec.specs.Reading.{entry_at};
 
-use crate::item::Item;
+use crate::item::{Item, Ordered};
 use crate::unread::Unread;
 use crate::words::{read_number, read_pointer};
 use gdi_kinds::{ListOf, NoMemory};
@@ -27,8 +27,6 @@ impl Item for BucketEntry {
 
     ghost reading = { entry_at };
 
-    ghost is_before = { is_entry_before };
-
     fn write_to(&self, out: &mut Words) -> Result<(), NoMemory> {
         out.push(self.id)?;
         out.push(self.at.raw())
@@ -40,6 +38,10 @@ impl Item for BucketEntry {
         let at = read_pointer(words)?;
         Ok(BucketEntry { id, at })
     }
+}
+
+impl Ordered for BucketEntry {
+    ghost is_before = { is_entry_before };
 
     fn is_before(&self, other: &BucketEntry) -> bool {
         self.id < other.id

@@ -3,7 +3,7 @@ ghost use Rattle.holder_codec.specs.Edges.{RecordFits, record_words, is_record_b
 ghost use Rattle.holder_codec.specs.Reading.{Gives, direction_of, record_at};
 
 use crate::edge_form::{EdgeForm, form_of, word_of_form};
-use crate::item::Item;
+use crate::item::{Item, Ordered};
 use crate::unread::Unread;
 use crate::words::{read_number, read_pointer};
 use gdi_kinds::{ListOf, NoMemory};
@@ -36,8 +36,6 @@ impl Item for EdgeRecord {
 
     ghost reading = { record_at };
 
-    ghost is_before = { is_record_before };
-
     fn write_to(&self, out: &mut Words) -> Result<(), NoMemory> {
         out.push(u64::from(self.inward) + 2 * u64::from(self.undirected))?;
         out.push(self.ordinal)?;
@@ -62,6 +60,10 @@ impl Item for EdgeRecord {
             form,
         })
     }
+}
+
+impl Ordered for EdgeRecord {
+    ghost is_before = { is_record_before };
 
     fn is_before(&self, other: &EdgeRecord) -> bool {
         match (self.inward, other.inward) {

@@ -2,7 +2,7 @@ ghost use Rattle.std.specs.Prelude.{◌≡◌};
 ghost use Rattle.holder_codec.specs.Values.{PropFits, prop_words, type_word, is_prop_before};
 ghost use Rattle.holder_codec.specs.Reading.{prop_at};
 
-use crate::item::Item;
+use crate::item::{Item, Ordered};
 use crate::unread::Unread;
 use crate::values::{
     byte_length, code_of, is_same_kind, kind_of, kind_of_code, read_value, write_value,
@@ -35,8 +35,6 @@ impl Item for HeldProp {
 
     ghost reading = { prop_at };
 
-    ghost is_before = { is_prop_before };
-
     fn write_to(&self, out: &mut Words) -> Result<(), NoMemory> {
         out.push(type_word(self.number, kind_of(&self.value), self.many))?;
         out.push(byte_length(&self.value))?;
@@ -57,6 +55,10 @@ impl Item for HeldProp {
             value,
         })
     }
+}
+
+impl Ordered for HeldProp {
+    ghost is_before = { is_prop_before };
 
     fn is_before(&self, other: &HeldProp) -> bool {
         self.number < other.number

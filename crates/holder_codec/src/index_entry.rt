@@ -2,7 +2,7 @@ ghost use Rattle.std.specs.Prelude.{◌≡◌};
 ghost use Rattle.holder_codec.specs.Index.{IndexEntryFits, index_entry_words, is_pair_before};
 ghost use Rattle.holder_codec.specs.Reading.{pair_at};
 
-use crate::item::Item;
+use crate::item::{Item, Ordered};
 use crate::unread::Unread;
 use crate::words::{narrow, read_number};
 use gdi_kinds::{ListOf, NoMemory};
@@ -26,8 +26,6 @@ impl Item for IndexEntry {
 
     ghost reading = { pair_at };
 
-    ghost is_before = { is_pair_before };
-
     fn write_to(&self, out: &mut Words) -> Result<(), NoMemory> {
         out.push(u64::from(self.label))?;
         out.push(self.id)
@@ -39,6 +37,10 @@ impl Item for IndexEntry {
         let id = read_number(words)?;
         Ok(IndexEntry { label, id })
     }
+}
+
+impl Ordered for IndexEntry {
+    ghost is_before = { is_pair_before };
 
     fn is_before(&self, other: &IndexEntry) -> bool {
         self.label < other.label || self.label == other.label && self.id < other.id

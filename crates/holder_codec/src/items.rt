@@ -3,7 +3,7 @@ ghost use Rattle.std.specs.List.{flat_map, AllByRecursion};
 ghost use Rattle.holder_codec.specs.Reading.{Gives, many_at, rising_at};
 ghost use Rattle.holder_codec.specs.Order.{is_rising};
 
-use crate::item::Item;
+use crate::item::{Item, Ordered};
 use crate::unread::Unread;
 use gdi_kinds::{ListOf, NoMemory};
 use object_words::Words;
@@ -22,7 +22,7 @@ pub(crate) fn write_all<I: Item>(items: &[I], out: &mut Words) -> Result<(), NoM
 
 /// So many items that the words begin with, each before the next. The words after them are left.
 #[tactic(auto, unfolding(crate::specs::Reading::rising_at))]
-pub(crate) fn read_rising<I: Item + Drop>(
+pub(crate) fn read_rising<I: Ordered + Drop>(
     alloc: Global,
     count: u64,
     words: &mut &[u64],
@@ -36,7 +36,8 @@ pub(crate) fn read_rising<I: Item + Drop>(
     Ok(items)
 }
 
-fn read_many<I: Item + Drop>(
+/// So many items that the words begin with. The words after them are left.
+pub(crate) fn read_many<I: Item + Drop>(
     alloc: Global,
     count: u64,
     words: &mut &[u64],
@@ -52,7 +53,7 @@ fn read_many<I: Item + Drop>(
 }
 
 /// Whether each item stands before the next.
-fn is_rising<I: Item>(items: &[I]) -> bool
+fn is_rising<I: Ordered>(items: &[I]) -> bool
     ensures { result ≡ is_rising I.is_before items.now }
 {
     let mut rest = items;

@@ -1,4 +1,4 @@
-//! Vertices, buckets and objects of the index as the words of an object, and back. Each holder has one spelling.
+//! Names, vertices, buckets and objects of the index as the words of an object, and back. Each holder has one spelling.
 #![tactic(auto)]
 
 mod bucket_entry;
@@ -13,10 +13,13 @@ mod items;
 mod keeps_graph;
 mod label;
 mod laws;
+mod meta_holder;
+mod names;
 mod part_laws;
 #[cfg(test)]
 mod tests;
 mod texts;
+mod type_line;
 mod unread;
 mod values;
 mod vertex_holder;
@@ -34,7 +37,9 @@ pub use laws::{
     empty_store_represents_empty_graph, sizes_are_lengths, spellings_differ,
     store_represents_one_graph, words_are_counted,
 };
+pub use meta_holder::MetaHolder;
 pub use part_laws::{
     buckets_alone, parts_look_at_their_own_objects, same_contents_represent_the_same,
 };
+pub use type_line::{TypeLine, TypeList};
 pub use vertex_holder::VertexHolder;

@@ -6,8 +6,8 @@ ghost use Rattle.holder_codec.specs.Represents.{Represents};
 ghost use Rattle.holder_codec.specs.Keeping.{keeps_by_steps};
 
 use crate::{
-    BucketHolder, EdgeForm, EdgeRecord, IndexHolder, KeepsGraph, VertexHolder, buckets_alone,
-    empty_store_represents_empty_graph, parts_look_at_their_own_objects,
+    BucketHolder, EdgeForm, EdgeRecord, IndexHolder, KeepsGraph, MetaHolder, VertexHolder,
+    buckets_alone, empty_store_represents_empty_graph, parts_look_at_their_own_objects,
     same_contents_represent_the_same, sizes_are_lengths, spellings_differ,
     store_represents_one_graph, words_are_counted,
 };
@@ -59,6 +59,39 @@ fn words_of(alloc: Global, numbers: &[u64]) -> Result<Words, NoMemory> {
         words.push(*number)?;
     }
     Ok(words)
+}
+
+#[test]
+fn names(rt: HostRuntime) -> Result<(), Fail> {
+    let spelled = [
+        [].as_slice(),
+        [1, 0, 6, 0x6e6f_7372_6550].as_slice(),
+        [0, 1, 4, 1, 110].as_slice(),
+        [2, 1, 1, 65, 1, 66, 2, 1, 65].as_slice(),
+    ];
+    for numbers in spelled {
+        let words = words_of(rt.alloc(), numbers)?;
+        let names = MetaHolder::read(rt.alloc(), &words)?.ok_or("names")?;
+        let again = names.write(rt.alloc())?;
+        assert_eq!(rt; again.as_slice(), numbers);
+    }
+    let not_spelled = [
+        [0, 0].as_slice(),
+        [1].as_slice(),
+        [2, 0, 1, 65, 1, 65].as_slice(),
+        [0, 2, 0, 1, 110, 1, 1, 110].as_slice(),
+        [1, 0, 1, 65, 0].as_slice(),
+        [1, 0, 1, 48].as_slice(),
+        [1, 0, 1, 65 + 256].as_slice(),
+        [0, 1, 3, 1, 110].as_slice(),
+        [0, 1, 8, 1, 110].as_slice(),
+    ];
+    for numbers in not_spelled {
+        let words = words_of(rt.alloc(), numbers)?;
+        let found = MetaHolder::read(rt.alloc(), &words)?;
+        assert!(rt; found.is_none(), "{numbers:?}");
+    }
+    Ok(())
 }
 
 #[test]

@@ -1,6 +1,6 @@
 ghost use Rattle.std.specs.Prelude.{◌≡◌, Option};
 ghost use Rattle.object_words.specs.Chains.{place_of};
-ghost use Rattle.holder_codec.specs.Reading.{Gives, number_at, place_at, bool_at, narrow};
+ghost use Rattle.holder_codec.specs.Reading.{Gives, number_at, place_at, bool_at, bool_of, narrow};
 
 use crate::unread::Unread;
 use rma_layout::DPtr;
@@ -38,7 +38,14 @@ pub(crate) fn pointer_of(word: u64) -> DPtr
 pub(crate) fn read_bool(words: &mut &[u64]) -> Result<bool, Unread>
     ensures { Gives (λ bool. (bool, words.new.now)) result (bool_at words.old.now) }
 {
-    match read_number(words)? {
+    bool_of(read_number(words)?)
+}
+
+/// Whether a word is 1. It is 0 or 1.
+pub(crate) fn bool_of(word: u64) -> Result<bool, Unread>
+    ensures { Gives (λ bool. bool) result (bool_of word) }
+{
+    match word {
         0 => Ok(false),
         1 => Ok(true),
         _ => Err(Unread::NotSpelled),
