@@ -1,4 +1,4 @@
-//! Tests of a store of objects, and of what of a graph is found in one.
+//! Tests of what of a graph is found in a store of objects.
 #![tactic(auto)]
 
 #[cfg(test)]
@@ -7,5 +7,3 @@ mod identifiers;
 mod keeping;
 #[cfg(test)]
 mod labels;
-#[cfg(test)]
-mod objects;

@@ -1,5 +1,5 @@
 use Rattle.std.proofs.Common.{◌≡◌, length}
-use Rattle.store_tests.proofs.objects.numbers.Given as goal
+use Rattle.object_tests.proofs.objects.numbers.Given as goal
 
 abbrev pub invariant-loop-number : goal.invariant-loop-number
 invariant-loop-number l = length l.words ≡ l.number

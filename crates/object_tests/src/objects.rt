@@ -41,22 +41,22 @@ fn put<S: Store<Anything>>(store: &mut S, at: DPtr, words: Words) -> Result<u64,
     store.commit(&Blank)
 }
 
-/// Makes an object with one word.
+/// Makes an object with so many words.
 fn make<S: Store<Anything>>(
     store: &mut S,
     alloc: Global,
     home: u16,
-    word: u64,
+    many: u64,
 ) -> Result<DPtr, S::Refused>
     requires idle { (S.state store.old).phase ≡ Idle }
     requires rank { home < (S.state store.old).shape.ranks }
+    requires few { many ≤ MOST_WORDS }
     requires allowed { 0 < (S.state store.old).allowance }
     ensures idle { (S.state store.new).phase ≡ Idle }
     ensures shape { (S.state store.new).shape ≡ (S.state store.old).shape }
     ensures allowance { (S.state store.old).allowance ≤ (S.state store.new).allowance + 1 }
 {
-    let mut words = Words::new(alloc);
-    words.push(word)?;
+    let words = numbers(alloc, many)?;
     store.begin(true)?;
     let made = store.fresh(home)?;
     store.write(made, words)?;
@@ -79,7 +79,7 @@ fn empty<S: Store<Anything>>(store: &mut S, alloc: Global, at: DPtr) -> Result<b
         store.abort();
         return Ok(false);
     }
-    store.write(at, Words::new(alloc))?;
+    store.write(at, numbers(alloc, 0)?)?;
     store.commit(&Blank)?;
     Ok(true)
 }
@@ -175,7 +175,7 @@ fn is_refused_where_none_is_left(rt: HostRuntime) -> Result<(), Fail> {
     assert!(rt; !empty(&mut store, alloc, DPtr::new(0, 6))?);
     let again = make(&mut store, alloc, 0, 5)?;
     assert_eq!(rt; (again.rank(), again.block()), (0, 6));
-    assert_eq!(rt; look(&mut store, DPtr::new(0, 6))?, (1, 5));
+    assert_eq!(rt; look(&mut store, DPtr::new(0, 6))?, (5, 5));
     Ok(())
 }
 
@@ -213,11 +213,11 @@ fn aborts_leave_nothing(rt: HostRuntime) -> Result<(), Fail> {
     store.stands_alone();
     let metadata = DPtr::new(0, 0);
     store.begin(true)?;
-    store.write(metadata, Words::from_vec([1, 2].to_vec(alloc)?))?;
-    assert_eq!(rt; store.read(metadata)?.as_slice(), [1, 2].as_slice());
+    store.write(metadata, numbers(alloc, 2)?)?;
+    assert_eq!(rt; store.read(metadata)?.as_slice(), [0, 1].as_slice());
     store.abort();
     assert_eq!(rt; look(&mut store, metadata)?, (0, 0));
-    let words = Words::from_vec([1, 2, 3].to_vec(alloc)?);
+    let words = numbers(alloc, 3)?;
     assert_eq!(rt; put(&mut store, metadata, words)?, 0);
     assert_eq!(rt; look(&mut store, metadata)?, (3, 1));
     Ok(())
@@ -230,7 +230,7 @@ fn gives_no_object_twice_in_one_transaction(rt: HostRuntime) -> Result<(), Fail>
     store.stands_alone();
     store.begin(true)?;
     let first = store.fresh(0)?;
-    store.write(first, Words::new(alloc))?;
+    store.write(first, numbers(alloc, 0)?)?;
     let second = store.fresh(0)?;
     assert_eq!(rt; (first.block(), second.block()), (5, 6));
     assert_eq!(rt; store.geometry().blocks(), BLOCKS);
@@ -244,7 +244,7 @@ fn giving_up_ends_the_transaction(rt: HostRuntime) -> Result<(), Fail> {
     let alloc = rt.alloc();
     let mut store = PlainStore::<Anything>::new(alloc, Geometry::new(1, BLOCKS, 8, 2, 2)?)?;
     store.begin(true)?;
-    store.write(DPtr::new(0, 0), Words::from_vec([1, 2].to_vec(alloc)?))?;
+    store.write(DPtr::new(0, 0), numbers(alloc, 2)?)?;
     assert!(rt; give_up(&mut store) == PlainRefused::NoMemory);
     assert_eq!(rt; look(&mut store, DPtr::new(0, 0))?, (0, 0));
     Ok(())

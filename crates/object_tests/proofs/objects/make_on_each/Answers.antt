@@ -2,7 +2,7 @@ use Rattle.std.proofs.Common.{ap, ◌∙◌, [], inl, inr}
 use Rattle.std.specs.Prelude.{is_some}
 use Rattle.object_words.specs.Contents.{words_at}
 use Rattle.object_words.proofs.Places.{words_at_here}
-use Rattle.store_tests.proofs.objects.make_on_each.Goals as goal
+use Rattle.object_tests.proofs.objects.make_on_each.Goals as goal
 
 -- it was just made
 pub write-requires-clause-may : goal.write-requires-clause-may

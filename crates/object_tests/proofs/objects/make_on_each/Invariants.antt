@@ -1,6 +1,6 @@
 use Rattle.std.proofs.Common.{◌≡◌}
 use Rattle.object_store.specs.declared.phase.Phase.TheVariants.{Writing}
-use Rattle.store_tests.proofs.objects.make_on_each.Given as goal
+use Rattle.object_tests.proofs.objects.make_on_each.Given as goal
 
 abbrev pub invariant-loop-home : goal.invariant-loop-home
 invariant-loop-home g l = record {

@@ -1,6 +1,6 @@
 use Rattle.std.proofs.Common.{◌≡◌}
 use Rattle.object_store.specs.declared.phase.Phase.TheVariants.{Reading}
-use Rattle.store_tests.proofs.objects.each_has.Given as goal
+use Rattle.object_tests.proofs.objects.each_has.Given as goal
 
 abbrev pub invariant-loop-home : goal.invariant-loop-home
 invariant-loop-home g l = record {

@@ -1,0 +1,5 @@
+//! Tests of transactions on objects.
+#![tactic(auto)]
+
+#[cfg(test)]
+mod objects;
