@@ -3,3 +3,5 @@ pub mod StepLemmas
 pub mod ReadingLemmas
 pub mod PartLemmas
 pub mod PrintedLemmas
+pub mod LineLaw
+pub mod ScriptLaw

@@ -150,3 +150,15 @@ tells_line text rest line after number r stop.NoMemory was first stops = tt
 pub tells_end : (text : List ℕ) (number : ℕ) (r : Reader) (s : Stop) → IsPart text [] number r → OrNoMemory (λ kind. IsOpen r.place.stage × (kind ≡ 3)) s → TellsFault text (refused_at number s)
 tells_end text number r (stop.Bad kind) was stops = is_unclosed text number kind r was stops
 tells_end text number r stop.NoMemory was stops = tt
+
+-- ---- the end of the text
+
+at_end : (text rest : List ℕ) (number : ℕ) (r : Reader) → IsPart text rest number r → length rest ≡ 0 → IsPart text [] number r
+at_end text [] number r was none = was
+at_end text (byte ∷ rest) number r was none = absurd (omega arith)
+
+pub spelled_at_end : (text rest : List ℕ) (number : ℕ) (r : Reader) (script : List (List Txn)) → IsPart text rest number r → length rest ≡ 0 → (script ≡ script_at r.place.stage r) × (¬ IsOpen r.place.stage) → Spells text script
+spelled_at_end text rest number r script was none ends = is_spelled text number r script (at_end text rest number r was none) ends
+
+pub tells_at_end : (text rest : List ℕ) (number : ℕ) (r : Reader) (s : Stop) → IsPart text rest number r → length rest ≡ 0 → OrNoMemory (λ kind. IsOpen r.place.stage × (kind ≡ 3)) s → TellsFault text (refused_at number s)
+tells_at_end text rest number r s was none stops = tells_end text number r s (at_end text rest number r was none) stops

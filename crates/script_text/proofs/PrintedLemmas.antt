@@ -6,8 +6,9 @@ use Rattle.gdi_kinds.specs.declared.call.Call.TheVariants.{NewLabel, NewType, Ve
 use Rattle.gdi_kinds.specs.declared.txn.Txn.{Txn}
 use Rattle.script_text.specs.declared.step.Step.{Step}
 use Rattle.script_text.specs.declared.step.Step.TheVariants as step
-use Rattle.script_text.specs.CallLines.{parts_of, line_of_call, IsCall}
+use Rattle.script_text.specs.CallLines.{parts_of, line_of_call}
 use Rattle.text_words.specs.Lines.{lines_of}
+use Rattle.script_text.specs.Faults.{IsStep}
 use Rattle.script_text.specs.Scripts.{is_skipped, counted, line_of, step_text, steps_of_txn, steps_of_section, steps_of_script, IsHeld, IsTxn, IsScript, Spells, script_text}
 use Rattle.text_words.proofs.PrintLemmas.{Prints, ArePlain, kind_plain, dir_plain, many_plain, label_plain, scope_plain, all_append, test_plain, parts_print, line_ends}
 
@@ -88,12 +89,7 @@ call_counts Arcs = refl
 
 -- ---- lines
 
--- a step whose call has a line
-abbrev pub HasLine : Step → Type 0
-HasLine (step.Does call) = IsCall call
-HasLine s = Unit {0}
-
-line_prints : (s : Step) → HasLine s → Prints (line_of s)
+pub line_prints : (s : Step) → IsStep s → Prints (line_of s)
 line_prints step.Section fits = refl
 line_prints (step.Begin true) fits = refl
 line_prints (step.Begin false) fits = refl
@@ -109,7 +105,7 @@ line_counts (step.Does call) = call_counts call
 line_counts (step.Close true) = refl
 line_counts (step.Close false) = refl
 
-printed_lines : (steps : List Step) → AllByRecursion HasLine steps → lines_of (flat_map step_text steps) ≡ map line_of steps
+printed_lines : (steps : List Step) → AllByRecursion IsStep steps → lines_of (flat_map step_text steps) ≡ map line_of steps
 printed_lines [] fit = refl
 printed_lines (s ∷ steps) fit =
     ap lines_of (append_assoc (line_of s) (10 ∷ []) (flat_map step_text steps))
@@ -120,20 +116,20 @@ all_count : (steps : List Step) → counted (map line_of steps) ≡ map line_of 
 all_count [] = refl
 all_count (s ∷ steps) = ap (λ (b : Bool). cond (not b) (line_of s ∷ counted (map line_of steps)) (counted (map line_of steps))) (line_counts s) ∙ ap (λ (ls : List (List ℕ)). line_of s ∷ ls) (all_count steps)
 
-calls_have_lines : (whole : Bool) (calls : List Call) → AllByRecursion (IsHeld whole) calls → AllByRecursion HasLine (map step.Does calls)
+calls_have_lines : (whole : Bool) (calls : List Call) → AllByRecursion (IsHeld whole) calls → AllByRecursion IsStep (map step.Does calls)
 calls_have_lines whole [] held = tt
 calls_have_lines whole (call ∷ calls) held = (held.0.spelled, calls_have_lines whole calls held.1)
 
-txn_has_lines : (txn : Txn) → IsTxn txn → AllByRecursion HasLine (steps_of_txn txn)
-txn_has_lines txn is = (tt, all_append HasLine (map step.Does txn.calls) (step.Close txn.aborts ∷ []) (calls_have_lines txn.whole txn.calls is.calls) (tt, tt))
+txn_has_lines : (txn : Txn) → IsTxn txn → AllByRecursion IsStep (steps_of_txn txn)
+txn_has_lines txn is = (tt, all_append IsStep (map step.Does txn.calls) (step.Close txn.aborts ∷ []) (calls_have_lines txn.whole txn.calls is.calls) (tt, tt))
 
-txns_have_lines : (txns : List Txn) → AllByRecursion IsTxn txns → AllByRecursion HasLine (flat_map steps_of_txn txns)
+txns_have_lines : (txns : List Txn) → AllByRecursion IsTxn txns → AllByRecursion IsStep (flat_map steps_of_txn txns)
 txns_have_lines [] all = tt
-txns_have_lines (txn ∷ txns) all = all_append HasLine (steps_of_txn txn) (flat_map steps_of_txn txns) (txn_has_lines txn all.0) (txns_have_lines txns all.1)
+txns_have_lines (txn ∷ txns) all = all_append IsStep (steps_of_txn txn) (flat_map steps_of_txn txns) (txn_has_lines txn all.0) (txns_have_lines txns all.1)
 
-script_has_lines : (sections : List (List Txn)) → AllByRecursion (AllByRecursion IsTxn) sections → AllByRecursion HasLine (steps_of_script sections)
+pub script_has_lines : (sections : List (List Txn)) → AllByRecursion (AllByRecursion IsTxn) sections → AllByRecursion IsStep (steps_of_script sections)
 script_has_lines [] all = tt
-script_has_lines (txns ∷ sections) all = all_append HasLine (steps_of_section txns) (steps_of_script sections) (tt, txns_have_lines txns all.0) (script_has_lines sections all.1)
+script_has_lines (txns ∷ sections) all = all_append IsStep (steps_of_section txns) (steps_of_script sections) (tt, txns_have_lines txns all.0) (script_has_lines sections all.1)
 
 pub printed_is_spelled : (script : List (List Txn)) (bytes : List ℕ) → bytes ≡ script_text script → IsScript script → Spells bytes script
 printed_is_spelled script bytes is form = record {

@@ -18,12 +18,10 @@ use Rattle.text_words.specs.Spelling.{Part, text_of, spaced, line_of_parts}
 use Rattle.script_text.specs.CallLines.{parts_of}
 use Rattle.text_words.specs.Words.{IsCut, IsOpening, AreBehind}
 use Rattle.script_text.specs.Verbs.{word_of, is_whole}
+use Rattle.text_words.proofs.WordLemmas.{spaced_word}
 use Rattle.text_words.specs.Forms.{IsWrong, OrMemory}
 use Rattle.script_text.specs.Scripts.{line_of}
 use Rattle.script_text.specs.Faults.{head_text, may_stand, stands, form_behind, stop_of, IsStep, IsStepOf, DoesStep, HasWords, IsClean, IsFault, OrNoMemory, AreFound, no_word, misplaced, ill_quoted, wrong_words}
-
-abbrev spaced_word : List ℕ → List ℕ
-spaced_word w = 32 ∷ w
 
 -- words are what they are cut from
 cut_text : (rest : List ℕ) (words : List (List ℕ)) → IsCut rest words → 32 ∷ rest ≡ flat_map spaced_word words
@@ -65,25 +63,25 @@ step_fits (head.Begin whole) words (step.Begin b) is = tt
 step_fits (head.Close aborts) words (step.Close b) is = tt
 step_fits h words s is = absurd is
 
-section_stands : (at : Stage) → stands at step.Section ≡ may_stand at head.Section
+pub section_stands : (at : Stage) → stands at step.Section ≡ may_stand at head.Section
 section_stands stage.Outside = refl
 section_stands stage.Section = refl
 section_stands (stage.Txn true) = refl
 section_stands (stage.Txn false) = refl
 
-begin_stands : (at : Stage) (begun whole : Bool) → stands at (step.Begin begun) ≡ may_stand at (head.Begin whole)
+pub begin_stands : (at : Stage) (begun whole : Bool) → stands at (step.Begin begun) ≡ may_stand at (head.Begin whole)
 begin_stands stage.Outside begun whole = refl
 begin_stands stage.Section begun whole = refl
 begin_stands (stage.Txn true) begun whole = refl
 begin_stands (stage.Txn false) begun whole = refl
 
-close_stands : (at : Stage) (closed aborts : Bool) → stands at (step.Close closed) ≡ may_stand at (head.Close aborts)
+pub close_stands : (at : Stage) (closed aborts : Bool) → stands at (step.Close closed) ≡ may_stand at (head.Close aborts)
 close_stands stage.Outside closed aborts = refl
 close_stands stage.Section closed aborts = refl
 close_stands (stage.Txn true) closed aborts = refl
 close_stands (stage.Txn false) closed aborts = refl
 
-does_stands : (at : Stage) (call : Call) (verb : Verb) → is_whole_call call ≡ is_whole verb → stands at (step.Does call) ≡ may_stand at (head.Does verb)
+pub does_stands : (at : Stage) (call : Call) (verb : Verb) → is_whole_call call ≡ is_whole verb → stands at (step.Does call) ≡ may_stand at (head.Does verb)
 does_stands stage.Outside call verb same = refl
 does_stands stage.Section call verb same = refl
 does_stands (stage.Txn true) call verb same = same

@@ -20,7 +20,8 @@ use Rattle.text_words.specs.Words.{IsOpening, AreBehind}
 use Rattle.text_words.specs.Forms.{Form, ends, IsWrong}
 use Rattle.script_text.specs.Verbs.{IsCallOf, form_of, word_of, is_whole}
 use Rattle.text_words.specs.Lines.{lines_of}
-use Rattle.script_text.specs.Scripts.{is_skipped, counted, line_of}
+use Rattle.script_text.specs.Scripts.{is_skipped, counted, line_of, Spells}
+use Rattle.gdi_kinds.specs.declared.txn.Txn.{Txn}
 
 abbrev pub head_text : Head → List ℕ
 head_text head.Section = codes "section"
@@ -172,3 +173,9 @@ pub record IsFirstFault (bytes : List ℕ) (number kind : ℕ) : Type 0 where
   pub number_is : number ≡ length before + 1
   pub good : AreGood before place
   pub wrong : FaultIn place rest kind
+
+-- the bytes spell this script and no other, and no line is wrong
+pub record SpellsAlone (bytes : List ℕ) (script : List (List Txn)) : Type 0 where
+  pub spelled : Spells bytes script
+  pub alone : (other : List (List Txn)) → Spells bytes other → other ≡ script
+  pub faultless : (number kind : ℕ) → ¬ IsFirstFault bytes number kind

@@ -1,5 +1,5 @@
 -- What has been read of a script.
-use Rattle.std.specs.Prelude.{◌≡◌, ℕ, Bool, true, false, List, [], ◌∷◌, ◌++◌, ◌⊎◌}
+use Rattle.std.specs.Prelude.{◌≡◌, ℕ, Bool, true, false, List, [], ◌∷◌, ◌++◌, ◌⊎◌, Result, Ok, Err}
 use Rattle.gdi_kinds.specs.declared.call.Call.{Call}
 use Rattle.gdi_kinds.specs.declared.txn.Txn.{Txn}
 use Rattle.script_text.specs.declared.step.Step.{Step}
@@ -52,6 +52,12 @@ StopsAt place line kind = (is_skipped line ≡ false) × IsWrongLine place line 
 abbrev pub TellsFault : List ℕ → ScriptRefused → Type 0
 TellsFault bytes (refused.Bad line kind) = IsFirstFault bytes line kind
 TellsFault bytes refused.NoMemory = Unit {0}
+
+-- the answer is this script, unless it is want of memory
+abbrev pub IsAnswered : List (List Txn) → Result (List (List Txn)) ScriptRefused → Type 0
+IsAnswered script (Ok read) = read ≡ script
+IsAnswered script (Err (refused.Bad line kind)) = ⊥
+IsAnswered script (Err refused.NoMemory) = Unit {0}
 
 -- how a text is refused where reading stops at a line
 abbrev pub refused_at : ℕ → Stop → ScriptRefused

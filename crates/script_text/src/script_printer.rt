@@ -1,15 +1,17 @@
 ghost use Rattle.std.specs.Prelude.{◌≡◌, ◌++◌, ◌∷◌, [], IfOk, OnOk};
 ghost use Rattle.std.specs.List.{flat_map};
-ghost use Rattle.script_text.specs.Scripts.{IsScript, Spells, script_text, step_text, steps_of_section, steps_of_txn};
+ghost use Rattle.script_text.specs.Faults.{SpellsAlone};
+ghost use Rattle.script_text.specs.Scripts.{IsScript, script_text, step_text, steps_of_section, steps_of_txn};
 
 use crate::call_printer::print_call;
 use gdi_kinds::{Bytes, Call, NoMemory, Script, Section, Txn};
 use std::alloc::Global;
 
-/// The text of a script: each line ends with LF, and none is skipped.
+/// The text of a script: each line ends with LF, and none is skipped. Of a script within the limits, whose transactions
+/// hold the calls that they may hold, it is a text that is read as this script.
 pub fn print_script(alloc: Global, script: &Script) -> Result<Bytes, NoMemory>
     ensures text { IfOk result (λ bytes. bytes ≡ script_text script.now) }
-    ensures spelled { IsScript script.now → IfOk result (λ bytes. Spells bytes script.now) }
+    ensures spelled { IsScript script.now → IfOk result (λ bytes. SpellsAlone bytes script.now) }
 {
     let mut out = Vec::new(alloc);
     for section in script.as_slice() {

@@ -1,7 +1,8 @@
-ghost use Rattle.std.specs.Prelude.{◌≡◌, [], MatchResult, OnOk};
+ghost use Rattle.std.specs.Prelude.{◌≡◌, List, [], MatchResult, OnOk};
+ghost use Rattle.gdi_kinds.specs.declared.txn.Txn.{Txn as ATxn};
 ghost use Rattle.script_text.specs.Scripts.{Spells};
 ghost use Rattle.script_text.specs.Faults.{IsWrongLine, IsOpen, OrNoMemory, start};
-ghost use Rattle.script_text.specs.Reading.{TakesLine, PassesLine, StopsAt, TellsFault, refused_at, with_step, script_at};
+ghost use Rattle.script_text.specs.Reading.{TakesLine, PassesLine, StopsAt, TellsFault, IsAnswered, refused_at, with_step, script_at};
 
 use crate::bytes::is_skipped;
 use crate::line_reader::step_of;
@@ -44,8 +45,11 @@ impl From<NoMemory> for ScriptRefused {
 }
 
 /// The script that a text spells. `Bad` tells the first wrong line and its kind.
+///
+/// A text that spells a script is refused for memory alone.
 pub fn read_script(alloc: Global, bytes: &[u8]) -> Result<Script, ScriptRefused>
-    ensures { MatchResult result (Spells bytes.now) (TellsFault bytes.now) }
+    ensures read { MatchResult result (Spells bytes.now) (TellsFault bytes.now) }
+    ensures whole { (script : List (List ATxn)) → Spells bytes.now script → IsAnswered script result }
 {
     let mut reader = Reader::new(alloc);
     let mut words = Vec::new(alloc);

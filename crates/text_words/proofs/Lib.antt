@@ -5,3 +5,6 @@ pub mod TestLemmas
 pub mod WordLemmas
 pub mod LineLemmas
 pub mod PrintLemmas
+pub mod PlainLemmas
+pub mod ShapeLemmas
+pub mod SaidLemmas

@@ -1,13 +1,13 @@
 -- A line is cut into words in one way at most.
 use Rattle.std.proofs.Common.{◌≡◌, ◌≢◌, ℕ, zero, suc, ◌+◌, ◌-◌, ◌≤◌, ◌<◌, Bool, eqb, List, [], ◌∷◌, ◌++◌, length, get_or, take, drop, Option, Some, None, inl, inr, refl, sym, ap, subst, ◌∙◌, append_assoc, length-append, add-one, drop-cons, arith}
-use Rattle.std.specs.List.{flat_map, position, position_or_len}
+use Rattle.std.specs.List.{AllByRecursion, flat_map, position, position_or_len}
 use Rattle.std.proofs.lemmas.Bool.{eqb-true, eqb-false, cases_lt, lt-ltb, cond-true}
 use Rattle.std.proofs.lemmas.List.{append-nil, take_at, take_rest, take-append-drop, take_all}
 use Rattle.std.proofs.lemmas.Grind.{flat_map-append}
 use Rattle.std.proofs.lemmas.List.Sums.{fails_before_first}
 use Rattle.std.proofs.lemmas.List.Quantifiers.{position-Some}
 use Rattle.text_words.specs.Spelling.{quoted_byte}
-use Rattle.text_words.specs.Words.{HasNoSpace, IsUnquoted, IsLineWord, IsBehind, IsClosed, HasFirst, IsOpening, IsCut}
+use Rattle.text_words.specs.Words.{AreBehind, HasNoSpace, IsUnquoted, IsLineWord, IsBehind, IsClosed, HasFirst, IsOpening, IsCut}
 use Rattle.text_words.proofs.ValueLemmas.{same_text, heads_differ, rest_is_closed}
 
 -- what stands behind a word
@@ -230,3 +230,42 @@ never_closes quoted rest was no_quote_here none bytes behind is = let left = res
     at : (others : List ℕ) → rest ≡ flat_map quoted_byte others ++ 34 ∷ behind → ⊥
     at [] same = no_quote_here behind same
     at (b ∷ bs) same = none b (flat_map quoted_byte bs ++ 34 ∷ behind) (same ∙ append_assoc (quoted_byte b) (flat_map quoted_byte bs) (34 ∷ behind))
+
+-- ---- words and the line that they make
+
+-- a line has one opening
+pub opening_same : (line v w : List ℕ) (o p : Option (List ℕ)) → IsOpening line v o → IsOpening line w p → (v ≡ w) × (o ≡ p)
+opening_same line v w o p one other =
+    let a = opening_tail line v o one in
+    let b = opening_tail line w p other in
+    plain_same v w o p a.0 b.0 (sym a.1 ∙ b.1)
+  where
+    opening_tail : (l x : List ℕ) (q : Option (List ℕ)) → IsOpening l x q → HasNoSpace x × (l ≡ x ++ tail q)
+    opening_tail l x None opening = (opening.0, opening.1 ∙ sym (append-nil x))
+    opening_tail l x (Some rest) opening = (opening.0, opening.1)
+
+-- the words behind a first word are one list
+pub behind_same : (o : Option (List ℕ)) (vs ws : List (List ℕ)) → AreBehind o vs → AreBehind o ws → vs ≡ ws
+behind_same None vs ws are also = are ∙ sym also
+behind_same (Some rest) vs ws are also = cut_same rest vs ws are also
+
+-- a word behind a space
+abbrev pub spaced_word : List ℕ → List ℕ
+spaced_word w = 32 ∷ w
+
+-- what stands behind the space that follows a first word
+abbrev pub joined : List (List ℕ) → Option (List ℕ)
+joined [] = None
+joined (w ∷ words) = Some (w ++ flat_map spaced_word words)
+
+pub joined_opening : (first : List ℕ) (words : List (List ℕ)) → HasNoSpace first → IsOpening (first ++ flat_map spaced_word words) first (joined words)
+joined_opening first [] none = (none, append-nil first)
+joined_opening first (w ∷ words) none = (none, refl)
+
+joined_cut : (w : List ℕ) (words : List (List ℕ)) → IsLineWord w → AllByRecursion IsLineWord words → IsCut (w ++ flat_map spaced_word words) (w ∷ words)
+joined_cut w [] is all = (is, append-nil w)
+joined_cut w (v ∷ words) is all = (v ++ flat_map spaced_word words, (is, refl), joined_cut v words all.0 all.1)
+
+pub joined_behind : (words : List (List ℕ)) → AllByRecursion IsLineWord words → AreBehind (joined words) words
+joined_behind [] all = refl
+joined_behind (w ∷ words) all = joined_cut w words all.0 all.1
