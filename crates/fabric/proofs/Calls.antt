@@ -13,8 +13,18 @@ use Rattle.window_rule.specs.Words.{words_in, with_word}
 use Rattle.window_rule.specs.Lawful.{IsLawful, IsRuled}
 use Rattle.window_rule.specs.Permits.{Permits}
 use Rattle.window_rule.specs.Steps.{Tells}
-use Rattle.fabric.specs.Window.{WindowModel, RankModel, IsSized}
+use Rattle.window_rule.specs.Spares.{SpareEnds}
+use Rattle.window_rule.specs.Trails.{SparesStay}
+use Rattle.fabric.specs.Window.{WindowModel, RankModel, IsSized, IsRank}
 use Rattle.window_rule.proofs.WordFunctions.{words_in-set, words_in-word}
+
+-- a rank as its contract sees it
+abbrev pub IsSeen : {N : Type 0} → Me (Unit {0}) (View N) → TableId → Shape → SpareEnds
+    → RankModel N → Type 0
+IsSeen {N} me seat shape ends rank =
+    let seen : RankModel N =
+    record { window = record { id = seat; shape = shape }; view = me.0; spares = ends } in
+    seen ≡ rank
 
 module _ {N : Type 0} (fits : Shape → Entry N → Type 0) (slots id : ℕ) (me : Me (Unit {0}) (View N))
     (f : ℕ → ℕ) (Told : View N → ℕ → View N → Type 0) where
@@ -50,17 +60,15 @@ module _ {N : Type 0} (fits : Shape → Entry N → Type 0) (slots id : ℕ) (me
       (seat ≡ table) × (number < table.words)
       × Allows (IsRuled fits key) slots id me number f (Tells Told me)
 
-  pub step_call : (word : Word) (table seat : TableId) (key geometry : Shape) (window : WindowModel)
-      (rank : RankModel N) (number : ℕ)
+  pub step_call : (word : Word) (table seat : TableId) (key geometry shape : Shape)
+      (ends : SpareEnds) (window : WindowModel) (rank : RankModel N) (number : ℕ)
       → (let seen : WindowModel = record { id = table; shape = geometry } in seen ≡ window)
-      → IsSized table key geometry
-      → (let seen : RankModel N = record { window = seat; view = me.0 } in seen ≡ rank)
-      → ¬ me.0.rights ≡ []
-      → rank.window ≡ window.id → IsWord window.shape word → number ≡ number_of window.shape word
+      → IsSized table key geometry → IsSeen me seat shape ends rank → ¬ me.0.rights ≡ []
+      → rank.window ≡ window → IsWord window.shape word → number ≡ number_of window.shape word
       → Permits fits window.shape word f rank.view (Told rank.view)
       → Asked table seat key number
-  step_call word table seat key geometry window rank number window_is sized rank_is live of_window
-      is_word number_is permits =
+  step_call word table seat key geometry shape ends window rank number window_is sized rank_is live
+      of_window is_word number_is permits =
       let shape_is : geometry ≡ window.shape = ap (λ (w : WindowModel). w.shape) window_is in
       let view_is : me.0 ≡ rank.view = ap (λ (r : RankModel N). r.view) rank_is in
       let word_here : IsWord geometry word = subst (λ s. IsWord s word) (sym shape_is) is_word in
@@ -70,11 +78,34 @@ module _ {N : Type 0} (fits : Shape → Entry N → Type 0) (slots id : ℕ) (me
       subst (λ v. Permits fits geometry word f v (Told v)) (sym view_is)
       (subst (λ s. Permits fits s word f rank.view (Told rank.view))
       (sym shape_is) permits) in (
-        ap (λ (r : RankModel N). r.window) rank_is
-            ∙ (of_window ∙ sym (ap (λ (w : WindowModel). w.id) window_is)),
+        ap (λ (r : RankModel N). r.window.id) rank_is
+            ∙ (ap (λ (w : WindowModel). w.id) of_window
+            ∙ sym (ap (λ (w : WindowModel). w.id) window_is)),
         omega (arith, number_of-lt geometry word word_here, sized.words),
         subst (λ k. Allows (IsRuled fits k) slots id me number f (Tells Told me)) (sym sized.same)
             (subst (λ n. Allows (IsRuled fits geometry) slots id me n f (Tells Told me))
             (sym numbered)
             (permitted geometry word word_here sized.in_range live permits_here)),
       )
+
+-- after a step that keeps the spares, a rank is one still
+pub rank_keeps : {N : Type 0} (me after : Me (Unit {0}) (View N)) (seat : TableId) (shape : Shape)
+    (ends : SpareEnds) (window : WindowModel) (rank : RankModel N) (Told : View N → Type 0)
+    → IsSeen me seat shape ends rank → rank.window ≡ window → IsRank shape me ends
+    → Told me.0 × (after.0.rights ≡ me.0.rights) × (after.1 ≡ me.1)
+    → (Told rank.view → SparesStay window.shape rank.spares rank.view after.0) → IsRank shape after ends
+rank_keeps {N} me after seat shape ends window rank Told rank_is of_window was told stay =
+    let shape_is : shape ≡ window.shape = ap (λ (r : RankModel N). r.window.shape) rank_is
+    ∙ ap (λ (w : WindowModel). w.shape) of_window in
+    let ends_is : ends ≡ rank.spares = ap (λ (r : RankModel N). r.spares) rank_is in
+    let view_is : me.0 ≡ rank.view = ap (λ (r : RankModel N). r.view) rank_is in
+    let stay_here : SparesStay shape ends me.0 after.0 =
+    subst (λ s. SparesStay s ends me.0 after.0) (sym shape_is)
+    (subst (λ e. SparesStay window.shape e me.0 after.0) (sym ends_is)
+    (subst (λ v. SparesStay window.shape rank.spares v after.0) (sym view_is)
+    (stay (subst Told view_is told.0)))) in
+    record {
+      slots = told.2 ∙ was.slots;
+      live = λ none. was.live (sym told.1 ∙ none);
+      has = stay_here was.has;
+    }

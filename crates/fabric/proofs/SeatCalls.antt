@@ -8,10 +8,12 @@ use Rattle.rma_layout.specs.Shape.{Shape}
 use Rattle.rma_layout.proofs.WordLemmas.{number_of-lt}
 use Rattle.window_rule.specs.View.{View, spent}
 use Rattle.window_rule.specs.Splits.{MaySplit, IsIdle, remaining, parted, joined}
+use Rattle.window_rule.specs.Spares.{SpareEnds, HasSpares}
 use Rattle.window_rule.specs.Lawful.{IsRuled}
-use Rattle.fabric.specs.Window.{WindowModel, RankModel, IsSized}
+use Rattle.fabric.specs.Window.{WindowModel, RankModel, IsSized, IsRank}
 use Rattle.window_rule.proofs.SplitSteps.{split_allowed}
-use Rattle.window_rule.proofs.JoinSteps.{join_allowed}
+use Rattle.window_rule.proofs.JoinSteps.{first_none, join_allowed}
+use Rattle.window_rule.proofs.KeptSpares.{spares_appended}
 
 some_words : (table : TableId) (key geometry : Shape) → IsSized table key geometry → 0 < table.words
 some_words table key geometry sized = omega (arith, number_of-lt geometry Commit tt, sized.words)
@@ -20,16 +22,18 @@ module _ {N : Type 0} (fits : Shape → Entry N → Type 0) (id : ℕ) (view : V
     (table seat : TableId) (key geometry : Shape) (window : WindowModel) (rank : RankModel N)
     (window_is : (let seen : WindowModel = record { id = table; shape = geometry } in
     seen ≡ window)) (sized : IsSized table key geometry)
-    (rank_is : (let seen : RankModel N = record { window = seat; view = view } in
+    (shape : Shape) (ends : SpareEnds)
+    (rank_is : (let seen : RankModel N =
+    record { window = record { id = seat; shape = shape }; view = view; spares = ends } in
     seen ≡ rank)) where
   view_is : view ≡ rank.view
   view_is = ap (λ (r : RankModel N). r.view) rank_is
 
-  same_table : rank.window ≡ window.id → seat ≡ table
-  same_table e = ap (λ (r : RankModel N). r.window) rank_is
-      ∙ (e ∙ sym (ap (λ (w : WindowModel). w.id) window_is))
+  same_table : rank.window ≡ window → seat ≡ table
+  same_table e = ap (λ (r : RankModel N). r.window.id) rank_is
+      ∙ (ap (λ (w : WindowModel). w.id) e ∙ sym (ap (λ (w : WindowModel). w.id) window_is))
 
-  pub split_call : (right commits picked_right picked : ℕ) → rank.window ≡ window.id
+  pub split_call : (right commits picked_right picked : ℕ) → rank.window ≡ window
       → (picked_right ≡ right) × (picked ≡ commits) → MaySplit rank.view right commits
       → (seat ≡ table) × (0 < table.words)
       × Splits (IsRuled {S = Unit {0}} fits key) id view (remaining picked_right picked view)
@@ -44,7 +48,7 @@ module _ {N : Type 0} (fits : Shape → Entry N → Type 0) (id : ℕ) (view : V
   )
 
   pub join_call : (j : ℕ) (other : Me (Unit {0}) (View N)) (other_table : TableId)
-      → view.rights ≢ [] → (rank.window ≡ window.id) × (other_table ≡ window.id)
+      → view.rights ≢ [] → (rank.window ≡ window) × (other_table ≡ window.id)
       → (other.1 ≡ []) × IsIdle other.0
       → (seat ≡ table) × (other_table ≡ table) × (other.1 ≡ []) × (0 < table.words)
       × Joins (IsRuled {S = Unit {0}} fits key) id view j other.0 (joined view other.0) spent
@@ -55,3 +59,25 @@ module _ {N : Type 0} (fits : Shape → Entry N → Type 0) (id : ℕ) (view : V
     some_words table key geometry sized,
     join_allowed fits key id j view other.0 live idle.1,
   )
+
+-- after a split a rank is one still, with the spares that it had
+pub split_keeps : {N : Type 0} (me after : Me (Unit {0}) (View N)) (shape : Shape)
+    (ends : SpareEnds) (picked_right picked : ℕ)
+    → MaySplit me.0 picked_right picked → IsRank shape me ends
+    → after ≡ (remaining picked_right picked me.0, me.1) → IsRank shape after ends
+split_keeps {N} me after shape ends picked_right picked may was is = record {
+  slots = ap (λ (m : Me (Unit {0}) (View N)). m.1) is ∙ was.slots;
+  live = λ none. may.another (sym (ap (λ (m : Me (Unit {0}) (View N)). m.0.rights) is) ∙ none);
+  has = subst (λ (m : Me (Unit {0}) (View N)). HasSpares shape m.0.private ends) (sym is) was.has;
+}
+
+pub join_keeps : {N : Type 0} (me after : Me (Unit {0}) (View N)) (other : View N) (shape : Shape)
+    (ends : SpareEnds) → IsRank shape me ends → after ≡ (joined me.0 other, me.1)
+    → IsRank shape after ends
+join_keeps {N} me after other shape ends was is = record {
+  slots = ap (λ (m : Me (Unit {0}) (View N)). m.1) is ∙ was.slots;
+  live = λ none. was.live
+      (first_none _ _ (sym (ap (λ (m : Me (Unit {0}) (View N)). m.0.rights) is) ∙ none));
+  has = subst (λ (m : Me (Unit {0}) (View N)). HasSpares shape m.0.private ends) (sym is)
+      (spares_appended shape me.0.private ends was.has other.private);
+}

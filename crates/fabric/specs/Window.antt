@@ -1,19 +1,29 @@
 -- A window and a rank, as contracts see them.
-use Rattle.std.specs.Prelude.{◌≡◌}
+use Rattle.std.specs.Prelude.{◌≡◌, ◌≢◌, []}
 use Rattle.rma_layout.specs.Shape.{Shape, window_words}
 use Rattle.rma_layout.specs.Ranges.{IsInRange}
 use Rattle.atomic_table.specs.Seated.{TableId}
+use Rattle.atomic_table.specs.Table.{Me}
 use Rattle.window_rule.specs.View.{View}
+use Rattle.window_rule.specs.Spares.{SpareEnds, HasSpares}
 
 -- which window it is, and its shape
 pub record WindowModel : Type 0 where
   pub id : TableId
   pub shape : Shape
 
--- the window that a rank is of, and what it knows
+-- the window that a rank is of, what it knows, and which of its own blocks it keeps as spares
 pub record RankModel (N : Type 0) : Type 0 where
-  pub window : TableId
+  pub window : WindowModel
   pub view : View N
+  pub spares : SpareEnds
+
+-- what is so of every rank: it is a seat without a slot that stands for some rank of the window, and
+-- its spares are chained
+pub record IsRank {S N : Type 0} (shape : Shape) (me : Me S (View N)) (ends : SpareEnds) : Type 0 where
+  pub slots : me.1 ≡ []
+  pub live : me.0.rights ≢ []
+  pub has : HasSpares shape me.0.private ends
 
 -- the table of a window has the words that its shape asks for
 pub record IsSized (id : TableId) (key shape : Shape) : Type 0 where

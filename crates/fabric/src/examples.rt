@@ -44,7 +44,7 @@ pub fn write_pair<L: Law, C: Carries<L>>(
     second: u64,
     note: &C,
 ) -> Result<u64, u64>
-    requires window { rank.old.window ≡ window.now.id }
+    requires window { rank.old.window ≡ window.now }
     requires object { IsBlock window.now.shape o }
     requires reserved { IsReserved window.now.shape o.block }
     requires wide { 4 < window.now.shape.words }
@@ -88,7 +88,7 @@ pub fn read_pair<L: Law>(
     window: &Window<L>,
     o: DPtr,
 ) -> Result<Option<(u64, u64)>, u64>
-    requires window { rank.old.window ≡ window.now.id }
+    requires window { rank.old.window ≡ window.now }
     requires object { IsBlock window.now.shape o }
     requires reserved { IsReserved window.now.shape o.block }
     requires wide { 4 < window.now.shape.words }

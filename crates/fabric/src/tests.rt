@@ -62,7 +62,7 @@ fn two_words_are_written_and_read(rt: HostRuntime) -> Result<(), Fail> {
 #[test]
 fn ranks_are_refused_for_one_another(rt: HostRuntime) -> Result<(), Fail> {
     let (window, mut one) = Window::<Anything>::new(rt.alloc(), Geometry::new(2, 8, 8, 2, 2)?)?;
-    let mut other = one.split(&window, 1, 10);
+    let mut other = one.split(&window, 1, 10, rt.alloc())?;
     let o = DPtr::new(0, 1);
 
     let Ok(()) = other.mark_try(&window, o) else {
@@ -116,7 +116,7 @@ fn ranks_are_refused_for_one_another(rt: HostRuntime) -> Result<(), Fail> {
 
 /// Writes pairs of equal words, and answers how many it has committed.
 fn write_often(rank: &mut Rank<Anything>, window: &Window<Anything>, o: DPtr, times: u64) -> u64
-    requires window { rank.old.window ≡ window.now.id }
+    requires window { rank.old.window ≡ window.now }
     requires object { IsBlock window.now.shape o }
     requires reserved { IsReserved window.now.shape o.block }
     requires wide { 4 < window.now.shape.words }
@@ -137,7 +137,7 @@ fn write_often(rank: &mut Rank<Anything>, window: &Window<Anything>, o: DPtr, ti
 
 /// Reads pairs, and answers whether the two words of each that it could read were equal.
 fn read_often(rank: &mut Rank<Anything>, window: &Window<Anything>, o: DPtr, times: u64) -> bool
-    requires window { rank.old.window ≡ window.now.id }
+    requires window { rank.old.window ≡ window.now }
     requires object { IsBlock window.now.shape o }
     requires reserved { IsReserved window.now.shape o.block }
     requires wide { 4 < window.now.shape.words }
@@ -157,7 +157,7 @@ fn read_often(rank: &mut Rank<Anything>, window: &Window<Anything>, o: DPtr, tim
 #[test]
 fn pairs_are_read_whole_while_another_rank_writes(rt: HostRuntime) -> Result<(), Fail> {
     let (window, mut one) = Window::<Anything>::new(rt.alloc(), Geometry::new(2, 8, 8, 2, 2)?)?;
-    let mut other = one.split(&window, 1, 200_000);
+    let mut other = one.split(&window, 1, 200_000, rt.alloc())?;
     let o = DPtr::new(1, 2);
     let (written, whole) = join_mut(
         &rt,

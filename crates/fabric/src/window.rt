@@ -3,9 +3,10 @@ ghost use Rattle.rma_layout.specs.Words.{IsWord, number_of};
 ghost use Rattle.window_rule.specs.RightsHold.{IsAlone};
 ghost use Rattle.window_rule.specs.Opening.{first_note, first_view};
 ghost use Rattle.window_rule.specs.Pool.{note_of};
+ghost use Rattle.window_rule.specs.Spares.{HasNone};
 
 use crate::opening::first_words;
-use crate::rank::Rank;
+use crate::rank::{Rank, no_spares};
 use crate::rule::Lawful;
 use crate::view::View;
 use atomic_table::Table;
@@ -44,15 +45,17 @@ impl<L: Law> Window<L> {
     /// that are not reserved, in rising order.
     pub fn new(alloc: Global, geometry: Geometry) -> Result<(Window<L>, Rank<L>), NoMemory>
         ensures shape { IfOk result (λ made. made.0.shape ≡ geometry) }
-        ensures together { IfOk result (λ made. made.1.window ≡ made.0.id) }
+        ensures together { IfOk result (λ made. made.1.window ≡ made.0) }
         ensures view { IfOk result (λ made. made.1.view ≡ first_view geometry) }
         ensures lists { IfOk result (λ made. (rank : ℕ) → rank < geometry.ranks → note_of made.1.view.notes rank ≡ Some (first_note geometry rank)) }
+        ensures spares { IfOk result (λ made. HasNone made.1.spares) }
         ensures alone { IfOk result (λ made. IsAlone geometry made.1.view) }
     {
         geometry.keeps_ranges();
         let words = first_words(alloc, &geometry)?;
         let (table, seat) = Table::of_words(alloc, words.as_slice(), &geometry)?;
-        Ok((Window { table, geometry }, Rank::seated(seat)))
+        let rank = Rank::seated(seat, geometry, no_spares(alloc)?, no_spares(alloc)?);
+        Ok((Window { table, geometry }, rank))
     }
 
     /// The geometry that it was made with.

@@ -40,6 +40,8 @@ pub mod FreeCounts
 pub mod NoteSteps
 pub mod LinkSteps
 pub mod SparesKept
+pub mod KeptSpares
+pub mod FreeBlocks
 pub mod Coverage
 pub mod Renewals
 pub mod NextSteps

@@ -1,5 +1,5 @@
 -- A head and the word of its block are loaded, and the tag of a head is renewed.
-use Rattle.std.proofs.Common.{◌≡◌, ◌≢◌, ℕ, ◌/◌, ◌^◌, ◌<◌, cond, List, [], ◌∷◌, set, refl, sym, ap, ◌∙◌, subst, inl, inr, arith, eq-eqb, ne_eqb}
+use Rattle.std.proofs.Common.{◌≡◌, ◌≢◌, ℕ, ◌/◌, ◌^◌, ◌<◌, cond, List, [], ◌∷◌, set, refl, sym, ap, ◌∙◌, subst, inl, inr, arith, eq-eqb, ne_eqb, Some}
 use Rattle.std.specs.List.{AllByRecursion}
 use Rattle.std.proofs.lemmas.Bool.{cases_eq}
 use Rattle.object_words.specs.Entries.{Entry}
@@ -14,8 +14,9 @@ use Rattle.window_rule.specs.NotesHold.{AreNoted, IsNoted, IsCurrent, notebook_o
 use Rattle.window_rule.specs.RoomHolds.{HasStock}
 use Rattle.window_rule.specs.ContentsHold.{AreCells}
 use Rattle.window_rule.specs.Permits.{Moment, Permits, Goes}
-use Rattle.window_rule.specs.Pool.{Heads, headed, MayNext, Nexts, nexted, MayRenew, renewed, without_bound}
-use Rattle.window_rule.specs.Lawful.{IsLawful}
+use Rattle.window_rule.specs.Pool.{Heads, headed, nexted, note_of, MayRenew, renewed, without_bound}
+use Rattle.window_rule.specs.Partition.{part_of, places_of, times}
+use Rattle.window_rule.specs.Lawful.{IsLawful, owns_of}
 use Rattle.window_rule.proofs.Frames.{IsPartition-same}
 use Rattle.window_rule.proofs.RightsKept.{others_are_spent}
 use Rattle.window_rule.proofs.LengthRead.{load_goes}
@@ -23,6 +24,15 @@ use Rattle.window_rule.proofs.NotesKept.{All-without, note_is, IsNoted-else}
 use Rattle.window_rule.proofs.PoolKept.{beside_pool, pool_step_keeps}
 use Rattle.window_rule.proofs.PopSteps.{begins_with}
 use Rattle.window_rule.proofs.FreeCounts.{free_count}
+use Rattle.window_rule.proofs.FreeBlocks.{free_blocks, own_block_is, bound_holds}
+use Rattle.window_rule.proofs.ViewsKept.{part_before}
+
+-- a noted list begins with the block
+pub record IsNotedBlock {N : Type 0} (view : View N) (block : Place) : Type 0 where
+  pub note : HeadNote
+  pub noted : note_of view.notes block.rank ≡ Some note
+  pub first : first_of note.head ≡ block.block
+  pub some_block : block.block ≢ 0
 
 pub bounds_without : (P : ℕ × ℕ → Type 0) (Q : ℕ × ℕ → Type 0) (rank : ℕ) (bounds : List (ℕ × ℕ))
     → ((one : ℕ × ℕ) → one.0 ≢ rank → P one → Q one) → AllByRecursion P bounds
@@ -108,6 +118,16 @@ module _ {N : Type 0} (fits : Shape → Entry N → Type 0) (shape : Shape) (wor
           list = now.lawful.ground.free rank;
           view = refl;
           first = (h.free.lists rank).first;
+          free = free_blocks shape (part_of now.lawful.ground.free (owns_of views) now.lawful.ground.objects)
+              now.lawful.ground.owner h.blocks rank (h.free.lists rank).one_rank;
+          mine = λ block there. own_block_is shape
+              (part_of now.lawful.ground.free (owns_of views) now.lawful.ground.objects)
+              now.lawful.ground.owner h.blocks id block
+              (subst (λ l. 0 < times block (places_of l))
+              (sym (part_before (λ (v : View N). v.private) views id before before [] now.there))
+              there);
+          bounded = λ alone bound is. bound_holds (heads_in words) before.bounds rank bound
+              (was.alone alone).bounds is;
           counted = free_count fits shape words views id before now rank on;
         };
       }
@@ -127,8 +147,9 @@ module _ {N : Type 0} (fits : Shape → Entry N → Type 0) (shape : Shape) (wor
       ap (nexts_in words) is
       ∙ (begins.leads ∙ ap (λ l. number_to (behind l)) (sym (current.list ∙ begins.list_is)))
 
-  pub next_goes : (block : Place) → MayNext before block
-      → Goes fits shape words views id before (Nexts shape block before (words (FreeList block)))
+  pub next_goes : (block : Place) → (may : IsNotedBlock before block)
+      → Goes fits shape words views id before
+      (λ after. after ≡ nexted may.note (words (FreeList block)) before)
   next_goes block may =
       let h = now.lawful.holds in
       let was = h.notes id before now.there in
@@ -160,18 +181,7 @@ module _ {N : Type 0} (fits : Shape → Entry N → Type 0) (shape : Shape) (wor
               };
             });
         same_rights = refl;
-        told = record {
-          note = may.note;
-          noted = may.noted;
-          view = refl;
-          link = h.free.links block;
-          alone = λ alone.
-              let head = (note_is
-              (λ (note : HeadNote). note.head ≡ heads_in words note.rank)
-              before.notes block.rank may.note may.noted (was.alone alone).now).0 in
-              current_next block may.note is.1 may.first may.some_block
-              (is.0.same (ap tag_of head));
-        };
+        told = refl;
       }
 
   -- where the view is alone, no other has notes, so the tag may fall
@@ -282,15 +292,6 @@ module _ {N : Type 0} (fits : Shape → Entry N → Type 0) (shape : Shape) (bef
         goes = λ words views id now small. load_goes fits shape words
             (Head rank) views id before (Heads shape rank before (words (Head rank)))
             (head_goes fits shape words views id before now rank on);
-      }
-
-  pub next_permitted : (block : Place) → MayNext before block
-      → Permits fits shape (FreeList block) (λ found. found) before (Nexts shape block before)
-  next_permitted block may =
-      record {
-        goes = λ words views id now small. load_goes fits shape words
-            (FreeList block) views id before (Nexts shape block before (words (FreeList block)))
-            (next_goes fits shape words views id before now block may);
       }
 
   pub renew_permitted : (rank head : ℕ) → MayRenew shape before rank head

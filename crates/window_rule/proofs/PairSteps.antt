@@ -26,11 +26,14 @@ use Rattle.window_rule.specs.Partition.{times, places_of}
 use Rattle.window_rule.specs.RoomHolds.{sum_below, count_on, asked_at, kept_at, asked_for, kept_of}
 use Rattle.window_rule.specs.Detach.{Detaches, dirt_on}
 use Rattle.window_rule.specs.Reads.{MayPut, put_in}
-use Rattle.window_rule.specs.Attach.{MayAttach, MayAttachSome, AttachesAll, Attaches, IsBuilt, attach_in}
+use Rattle.window_rule.specs.Attach.{MayAttach, MayAttachSome, AttachesAll, Attaches, IsBuilt, SparesAreLeft, attach_in}
+use Rattle.window_rule.specs.Spares.{SpareEnds}
 use Rattle.window_rule.specs.Commit.{MayCommit, Commits, flagged, attached_of, need_of}
 use Rattle.window_rule.specs.Pairs.{IsAtRest, IsNext, pair_entry}
 use Rattle.window_rule.proofs.LockLemmas.{place_by_parts, place_cases, same_place-refl, same_place-false, hold_of-with_same}
 use Rattle.window_rule.proofs.Cells.{cell-first, cell-index}
+use Rattle.window_rule.proofs.WordFunctions.{same_place-tells}
+use Rattle.window_rule.proofs.KeptSpares.{chain_is_own, linked_is_own}
 use Rattle.window_rule.proofs.RoomKept.{sum_below-only, sum_below-none, count_all}
 
 -- a reserved object has a block, whatever its words
@@ -52,6 +55,18 @@ own_block object [] begins some_block = absurd (omega arith)
 own_block object (first ∷ more) begins some_block =
     let here : one_if (same_place first object) ≡ 1 = ap (λ p. one_if (same_place p object)) begins
     ∙ ap one_if (same_place-refl object) in omega arith
+
+-- and a chain of one block is its own block
+only_block : (object block : Place) (chain : List Place) → length chain ≡ 1
+    → BeginsAt object chain → 0 < times block chain → block ≡ object
+only_block object block [] single begins there = absurd (omega arith)
+only_block object block (first ∷ []) single begins there =
+    elim (cases_Bool (same_place first block)) [
+      | inl same ↦ sym (same_place-tells first block same) ∙ begins
+      | inr differ ↦ let none : one_if (same_place first block) ≡ 0 = ap one_if differ in absurd
+          (omega arith)
+    ]
+only_block object block (first ∷ (next ∷ more)) single begins there = absurd (omega arith)
 
 -- and of one block there is no more in it than that one
 pub just_own : (object block : Place) (chain : List Place) → 0 < times object chain
@@ -198,6 +213,24 @@ module _ {N : Type 0} (shape : Shape) (object : Place) (block : IsBlock shape ob
 
       pub may_attach_two : MayAttachSome shape object 2 filled
       may_attach_two = (object ∷ [], first ∷ (second ∷ []), refl, may_attach)
+
+      pub pair_spares_left : (ends : SpareEnds) → SparesAreLeft shape object 2 filled ends
+      pair_spares_left ends chain content len may one there list are =
+          let single : length chain ≡ 1 = may.built.enough
+          ∙ (reserved_length shape object content low
+          ∙ (ap (λ n. blocks_for n per) len ∙ one_for_two)) in
+          let is : one ≡ object = only_block object one chain single may.built.lies.begins there in
+          elim (cases_eq (times one list) 0) [
+            | inl none ↦ none
+            | inr some ↦
+                let found = chain_is_own filled.private list one are.chained (omega arith) in
+                let own = subst (λ p. 0 < times p (places_of filled.private)) is
+                (linked_is_own filled.private one found.0 found.1) in
+                let same : filled.private ≡ view.private = ap (λ v. v.private) is_filled
+                ∙ ap (λ v. v.private) told.view in
+                let count = ap (λ own. times object (places_of own)) same in
+                absurd (omega (arith, told.apart object, has_own, own, count))
+          ]
 
       module _ (attached : View N) (all : AttachesAll shape object filled 2 attached) where
         abbrev attaches : Attaches object (object ∷ []) (first ∷ (second ∷ [])) filled attached

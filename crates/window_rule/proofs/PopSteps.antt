@@ -13,13 +13,14 @@ use Rattle.window_rule.specs.Words.{Words, with_word, nexts_in}
 use Rattle.window_rule.specs.Objects.{AreThreaded, number_to, behind, first_of, tag_of}
 use Rattle.window_rule.specs.Partition.{FreeOf, OwnOf, places_of, times, part_of}
 use Rattle.window_rule.specs.Permits.{Moment, Permits, Goes}
-use Rattle.window_rule.specs.Pool.{MayPop, Pops, popped, next_head}
+use Rattle.window_rule.specs.Pool.{MayBeFree, MayPop, Pops, popped, next_head}
 use Rattle.window_rule.specs.Lawful.{IsLawful, owns_of}
 use Rattle.window_rule.proofs.LockLemmas.{place_by_parts, place_cases, same_place-refl, same_place-false}
 use Rattle.window_rule.specs.Known.{cell_of, without_cells}
 use Rattle.window_rule.proofs.Cells.{cell-gone, cell-stays}
 use Rattle.window_rule.proofs.ViewsKept.{part_before}
 use Rattle.window_rule.proofs.PartitionKept.{apart}
+use Rattle.window_rule.proofs.FreeBlocks.{free_block}
 use Rattle.window_rule.proofs.HeadSteps.{head_moves, exchange_goes, note_holds}
 
 -- a list that begins at a block, as what it is of
@@ -117,6 +118,19 @@ module _ {N : Type 0} (fits : Shape → Entry N → Type 0) (shape : Shape) (ran
         now.lawful.ground.owner (FreeOf rank) (OwnOf id) block h.blocks (λ e. cc e)
         (omega arith)
 
+    -- and in a free list
+    pop_free : words (Head rank) ≡ head → MayBeFree shape rank block
+    pop_free hit =
+        let h = now.lawful.holds in
+        let list = h.free.lists rank in
+        let begins = begins_with (nexts_in words) rank (first_of head) (now.lawful.ground.free rank)
+        (ap first_of (sym hit) ∙ list.first) may.some_block list.threaded list.one_rank in
+        let here : one_if (same_place block block) ≡ 1 = ap one_if (same_place-refl block) in
+        let there : times block (now.lawful.ground.free rank) ≡ one_if
+        (same_place block block) + times block begins.rest = ap (times block) begins.list_is in
+        free_block shape (part_of now.lawful.ground.free (owns_of views) now.lawful.ground.objects)
+        now.lawful.ground.owner h.blocks rank list.one_rank block (omega arith)
+
     pop_goes : Goes fits shape
         (with_word words (Head rank) (either (words (Head rank) == head) new (words (Head rank))))
         views id before (Pops shape rank head next before (words (Head rank)))
@@ -127,7 +141,7 @@ module _ {N : Type 0} (fits : Shape → Entry N → Type 0) (shape : Shape) (ran
           after = gone.after;
           lawful = gone.lawful;
           same_rights = gone.same_rights;
-          told = record { exchanges = gone.told; fresh = pop_fresh };
+          told = record { exchanges = gone.told; fresh = pop_fresh; free = pop_free };
         }
 
   pub pop_permitted : Permits fits shape (Head rank)

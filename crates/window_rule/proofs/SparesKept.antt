@@ -1,41 +1,16 @@
 -- The spares of a rank: what keeps them.
-use Rattle.std.proofs.Common.{◌≡◌, ◌≢◌, ℕ, zero, suc, ◌<◌, ◌≤◌, cond, true, false, List, [], ◌∷◌, ◌++◌, length, refl, sym, ap, ◌∙◌, inl, inr, arith, Some, eq-eqb, ne_eqb}
-use Rattle.std.specs.Option.{unwrap_or}
-use Rattle.std.specs.List.{AllByRecursion}
+use Rattle.std.proofs.Common.{◌≡◌, ◌≢◌, ℕ, ◌<◌, ◌≤◌, cond, true, false, List, [], ◌∷◌, ◌++◌, refl, sym, ap, ◌∙◌, inl, inr, arith, Some}
 use Rattle.std.proofs.lemmas.Bool.{cases_Bool}
+use Rattle.rma_layout.specs.Shape.{Shape}
 use Rattle.rma_layout.specs.Placement.{Place, same_place}
-use Rattle.object_words.specs.Blocks.{one_if, on_rank}
+use Rattle.object_words.specs.Blocks.{one_if}
 use Rattle.window_rule.specs.View.{OwnBlock}
 use Rattle.window_rule.specs.Objects.{number_to}
 use Rattle.window_rule.specs.Partition.{times, places_of}
-use Rattle.window_rule.specs.Pool.{own_of, without_own, with_link}
-use Rattle.window_rule.specs.Spares.{AreChained, AreSpares, own_next_of, next_in, last_number, chain_from}
-use Rattle.window_rule.proofs.LockLemmas.{place_by_parts, same_place-refl, same_place-false}
+use Rattle.window_rule.specs.Pool.{MayBeFree, own_of, without_own, with_link}
+use Rattle.window_rule.specs.Spares.{AreChained, AreSpares, own_next_of, next_in, last_number}
+use Rattle.window_rule.proofs.LockLemmas.{same_place-refl, same_place-false}
 use Rattle.window_rule.proofs.WordFunctions.{same_place-tells}
-use Rattle.window_rule.proofs.JoinSteps.{All-append}
-
--- the function gives the list
-pub chain_is : (n : ℕ) (own : List OwnBlock) (rank first last : ℕ) (list : List Place)
-    → AreSpares own rank first last list → length list ≤ n → chain_from n own rank first ≡ list
-chain_is zero own rank first last [] h few = refl
-chain_is zero own rank first last (block ∷ more) h few = absurd (omega arith)
-chain_is (suc n) own rank first last [] h few = ap
-    (λ b. cond b [] (on_rank rank first ∷ chain_from n own rank
-    (unwrap_or (own_next_of own (on_rank rank first)) 0))) (eq-eqb first 0 h.first_is)
-chain_is (suc n) own rank first last (block ∷ more) h few =
-    let is : on_rank rank first ≡ block = place_by_parts (on_rank rank first) block
-    (sym h.places.0.0) h.first_is in
-    let not_nil : first ≢ 0 = λ none. h.places.0.1 (sym h.first_is ∙ none) in
-    let link : own_next_of own (on_rank rank first) ≡ Some (number_to more) = ap
-    (own_next_of own) is ∙ h.chained.0 in
-    let rest = chain_is n own rank (number_to more) (last_number more) more
-    (record { chained = h.chained.1; first_is = refl; last_is = refl; places = h.places.1 })
-    (omega arith) in
-    ap (λ b. cond b []
-    (on_rank rank first ∷ chain_from n own rank
-    (unwrap_or (own_next_of own (on_rank rank first)) 0))) (ne_eqb first 0 not_nil)
-    ∙ (ap (λ l. on_rank rank first ∷ chain_from n own rank (unwrap_or l 0)) link
-    ∙ (λ k. is k ∷ rest k))
 
 -- what a spare leads to is known as before
 pub chained_same : (own after : List OwnBlock) (list : List Place)
@@ -48,10 +23,11 @@ chained_same own after (block ∷ more) same h = (
   chained_same own after more (λ b there. same b (omega arith)) h.1,
 )
 
-pub AreSpares-same : (own after : List OwnBlock) (rank first last : ℕ) (list : List Place)
+pub AreSpares-same : (shape : Shape) (own after : List OwnBlock) (rank first last : ℕ)
+    (list : List Place)
     → ((block : Place) → 0 < times block list → own_next_of after block ≡ own_next_of own block)
-    → AreSpares own rank first last list → AreSpares after rank first last list
-AreSpares-same own after rank first last list same h =
+    → AreSpares shape own rank first last list → AreSpares shape after rank first last list
+AreSpares-same shape own after rank first last list same h =
     record {
       chained = chained_same own after list same h.chained;
       first_is = h.first_is;
@@ -135,22 +111,22 @@ link-pushed gone (one ∷ more) block ne =
     ]
 
 -- a block that leads to the first becomes the first
-pub spare_kept : (own : List OwnBlock) (rank first last : ℕ) (list : List Place) (block : Place)
-    → block.rank ≡ rank → block.block ≢ 0 → own_next_of own block ≡ Some first
-    → AreSpares own rank first last list
-    → AreSpares own rank block.block (last_number (block ∷ list)) (block ∷ list)
-spare_kept own rank first last list block on not_nil link h = record {
+pub spare_kept : (shape : Shape) (own : List OwnBlock) (rank first last : ℕ) (list : List Place)
+    (block : Place) → MayBeFree shape rank block → own_next_of own block ≡ Some first → AreSpares shape own rank first last list
+    → AreSpares shape own rank block.block (last_number (block ∷ list)) (block ∷ list)
+spare_kept shape own rank first last list block may link h = record {
   chained = (link ∙ ap Some h.first_is, h.chained);
   first_is = refl;
   last_is = refl;
-  places = ((on, not_nil), h.places);
+  places = (may, h.places);
 }
 
 -- and the first is no spare any more
-pub spare_used : (own : List OwnBlock) (rank first last next : ℕ) (block : Place)
+pub spare_used : (shape : Shape) (own : List OwnBlock) (rank first last next : ℕ) (block : Place)
     (more : List Place) → own_next_of own block ≡ Some next
-    → AreSpares own rank first last (block ∷ more) → AreSpares own rank next (last_number more) more
-spare_used own rank first last next block more link h = record {
+    → AreSpares shape own rank first last (block ∷ more)
+    → AreSpares shape own rank next (last_number more) more
+spare_used shape own rank first last next block more link h = record {
   chained = h.chained.1;
   first_is = (let both : Some next ≡ Some (number_to more) = sym link ∙ h.chained.0 in cc both);
   last_is = refl;
@@ -187,38 +163,6 @@ AreChainedTo own to [] = Unit {0}
 AreChainedTo own to (block ∷ []) = own_next_of own block ≡ Some to
 AreChainedTo own to (block ∷ (next ∷ more)) = (own_next_of own block ≡ Some next.block)
     × AreChainedTo own to (next ∷ more)
-
-chains_join : (mine theirs : List OwnBlock) (block : Place) (xs ys : List Place)
-    → AreChainedTo mine (number_to ys) (block ∷ xs) → AreChained (mine ++ theirs) ys
-    → AreChained (mine ++ theirs) ((block ∷ xs) ++ ys)
-chains_join mine theirs block [] ys h k = (link-left mine theirs block (number_to ys) h, k)
-chains_join mine theirs block (next ∷ more) ys h k =
-    (link-left mine theirs block next.block h.0, chains_join mine theirs next more ys h.1 k)
-
-last_of_both : (block other : Place) (xs ys : List Place)
-    → last_number ((block ∷ xs) ++ other ∷ ys) ≡ last_number (other ∷ ys)
-last_of_both block other [] ys = refl
-last_of_both block other (next ∷ more) ys = last_of_both next other more ys
-
--- two chains of one home rank are one once the last block of the one leads to the first of the
--- other
-pub spares_joined : (mine theirs : List OwnBlock) (rank first last other_first other_last : ℕ)
-    (block other : Place) (xs ys : List Place)
-    → AreChainedTo mine (number_to (other ∷ ys)) (block ∷ xs) → first ≡ block.block
-    → AllByRecursion (λ (b : Place). (b.rank ≡ rank) × (b.block ≢ 0)) (block ∷ xs)
-    → AreSpares theirs rank other_first other_last (other ∷ ys)
-    → ((b : Place) → 0 < times b (other ∷ ys) → times b (places_of mine) ≡ 0)
-    → AreSpares (mine ++ theirs) rank first other_last ((block ∷ xs) ++ other ∷ ys)
-spares_joined mine theirs rank first last other_first other_last block other xs ys to first_is
-    places h apart = record {
-      chained = chains_join mine theirs block xs (other ∷ ys) to
-          (chained_same theirs (mine ++ theirs) (other ∷ ys)
-          (λ b there. link-right mine theirs b (apart b there)) h.chained);
-      first_is = first_is;
-      last_is = h.last_is ∙ sym (last_of_both block other xs ys);
-      places = All-append (λ (b : Place). (b.rank ≡ rank) × (b.block ≢ 0)) (block ∷ xs)
-          (other ∷ ys) places h.places;
-    }
 
 -- the last block of a chain
 abbrev pub last_of : Place → List Place → Place

@@ -7,7 +7,7 @@ use Rattle.window_rule.specs.Known.{cell_of}
 use Rattle.window_rule.specs.Dirty.{dirt_of}
 use Rattle.window_rule.specs.Objects.{link_to, chain_length, LiesAt}
 use Rattle.window_rule.specs.Partition.{times, places_of}
-use Rattle.window_rule.specs.Spares.{own_next_of}
+use Rattle.window_rule.specs.Spares.{SpareEnds, IsNoSpare, own_next_of}
 use Rattle.window_rule.specs.RoomHolds.{count_on}
 
 -- the view knows that each block leads to the next
@@ -76,3 +76,9 @@ abbrev pub AttachesAll : {N : Type 0} → Shape → Place → View N → ℕ →
 AttachesAll shape object before len after = (chain : List Place) (content : List ℕ)
     → length content ≡ len → MayAttach shape object chain content before
     → Attaches object chain content before after
+
+-- no spare is in the chain that is attached
+abbrev pub SparesAreLeft : {N : Type 0} → Shape → Place → ℕ → View N → SpareEnds → Type 0
+SparesAreLeft shape object len view ends = (chain : List Place) (content : List ℕ)
+    → length content ≡ len → MayAttach shape object chain content view → (block : Place)
+    → 0 < times block chain → IsNoSpare shape view.private ends block

@@ -7,6 +7,8 @@ use Rattle.rma_layout.specs.Shape.{Shape}
 use Rattle.rma_layout.specs.Placement.{Place, IsBlock, raw_of, metadata, same_place}
 use Rattle.object_words.specs.Blocks.{blocks_for, is_reserved}
 use Rattle.object_words.specs.Contents.{is_empty}
+pub use Rattle.free_list.specs.Heads.{first_of, tag_of}
+pub use Rattle.free_list.specs.Lists.{number_to, behind, AreThreaded, IsFreeList}
 
 -- what stands at an object
 pub record Standing : Type 0 where
@@ -64,32 +66,6 @@ IsKept shape sizes cells object chain (Some content) =
 abbrev pub ObjectsStand : Shape → (Place → ℕ) → (Place → ℕ → ℕ) → Objects → Type 0
 ObjectsStand shape sizes cells objects = (object : Place) → IsBlock shape object
     → IsKept shape sizes cells object (objects object).chain (objects object).content
-
--- the block numbers of a free list, or of a chain of spares, lead from each block to the next
-abbrev pub number_to : List Place → ℕ
-number_to [] = 0
-number_to (block ∷ more) = block.block
-
--- the list without its first
-abbrev pub behind : List Place → List Place
-behind [] = []
-behind (block ∷ more) = more
-
-abbrev pub AreThreaded : (Place → ℕ) → List Place → Type 0
-AreThreaded nexts [] = Unit {0}
-AreThreaded nexts (block ∷ more) = (nexts block ≡ number_to more) × AreThreaded nexts more
-
-abbrev pub first_of : ℕ → ℕ
-first_of head = head % 2 ^ 20
-
-abbrev pub tag_of : ℕ → ℕ
-tag_of head = head / 2 ^ 20
-
-pub record IsFreeList (heads : ℕ → ℕ) (nexts : Place → ℕ) (rank : ℕ)
-    (list : List Place) : Type 0 where
-  pub first : first_of (heads rank) ≡ number_to list
-  pub threaded : AreThreaded nexts list
-  pub one_rank : AllByRecursion (λ block. block.rank ≡ rank) list
 
 -- It reads the heads and the free-list words.
 pub record FreeListsStand (heads : ℕ → ℕ) (nexts : Place → ℕ) (free : ℕ → List Place) : Type 0 where

@@ -1,24 +1,20 @@
 -- What the steps on heads and free-list words ask of a view, and make of it.
-use Rattle.std.specs.Prelude.{◌≡◌, ◌≢◌, ℕ, ◌+◌, ◌-◌, ◌*◌, ◌^◌, ◌<◌, ◌==◌, List, [], ◌∷◌, ◌++◌, length, map, Option, Some, None, if◌then◌else◌}
+use Rattle.std.specs.Prelude.{◌≡◌, ◌≢◌, ℕ, suc, ◌+◌, ◌-◌, ◌^◌, ◌<◌, ◌≤◌, ◌==◌, List, [], ◌∷◌, ◌++◌, length, drop, get_or, map, Option, Some, None, if◌then◌else◌}
+use Rattle.std.specs.List.{AllByRecursion}
 use Rattle.rma_layout.specs.declared.word.Word.{Word}
 use Rattle.rma_layout.specs.declared.word.Word.TheVariants.{Lock, Length, FreeList, Stamp, Data, Head, Gate, Commit}
 use Rattle.rma_layout.specs.Shape.{Shape}
-use Rattle.rma_layout.specs.Placement.{Place, IsBlock, same_place}
+use Rattle.rma_layout.specs.Placement.{Place, IsBlock, IsReserved, metadata, same_place}
 use Rattle.object_words.specs.Blocks.{on_rank, contents_use}
 use Rattle.object_words.specs.Entries.{store_after}
 use Rattle.window_rule.specs.View.{View, HeadNote, OwnBlock}
 use Rattle.window_rule.specs.Known.{without_cells}
-use Rattle.window_rule.specs.Objects.{first_of, tag_of, number_to, behind}
+use Rattle.window_rule.specs.Locks.{hold_of}
+use Rattle.window_rule.specs.Objects.{first_of, tag_of, number_to}
 use Rattle.window_rule.specs.Partition.{places_of, times}
 use Rattle.window_rule.specs.RightsHold.{IsAlone}
 use Rattle.window_rule.specs.RoomHolds.{count_on}
-
--- the head with this tag, of a list that begins with this block of its rank
-abbrev pub head_of : ℕ → ℕ → ℕ
-head_of tag block = tag * 2 ^ 20 + block
-
-abbrev pub next_head : ℕ → ℕ → ℕ
-next_head head block = head_of (tag_of head + 1) block
+pub use Rattle.free_list.specs.Heads.{head_of, next_head}
 
 abbrev pub note_of : List HeadNote → ℕ → Option HeadNote
 note_of [] rank = None
@@ -82,17 +78,32 @@ pub record Exchanges {N : Type 0} (shape : Shape) (head : ℕ) (before : View N)
   pub failed : found ≢ head → after ≡ failure
   pub alone : IsAlone shape before → found ≡ head
 
+-- a block of the rank that is not with an object for good
+pub record MayBeFree (shape : Shape) (rank : ℕ) (block : Place) : Type 0 where
+  pub on : block.rank ≡ rank
+  pub is_block : IsBlock shape block
+  pub unreserved : ¬ IsReserved shape block.block
+
 -- a block that is taken was with no view
 pub record Pops {N : Type 0} (shape : Shape) (rank head next : ℕ) (before : View N) (found : ℕ)
     (after : View N) : Type 0 where
   pub exchanges : Exchanges shape head before found after
       (popped rank (on_rank rank (first_of head)) next before) (missed rank head found before)
   pub fresh : found ≡ head → times (on_rank rank (first_of head)) (places_of before.private) ≡ 0
+  pub free : found ≡ head → MayBeFree shape rank (on_rank rank (first_of head))
 
 -- what the view knows of a block of its own
 abbrev pub own_of : List OwnBlock → Place → Option OwnBlock
 own_of [] block = None
 own_of (one ∷ more) block = if same_place one.block block then Some one else own_of more block
+
+abbrev pub next_in : Option OwnBlock → Option ℕ
+next_in None = None
+next_in (Some one) = one.next
+
+-- the free-list word of a block of a view's own, if it is one and the view knows it
+abbrev pub own_next_of : List OwnBlock → Place → Option ℕ
+own_next_of own block = next_in (own_of own block)
 
 abbrev pub without_own : List OwnBlock → Place → List OwnBlock
 without_own [] block = []
@@ -104,6 +115,10 @@ abbrev pub with_link : Place → ℕ → List OwnBlock → List OwnBlock
 with_link block next own = map
     (λ (one : OwnBlock).
     if same_place one.block block then record one { next = Some next } else one) own
+
+abbrev pub bound_of : List (ℕ × ℕ) → ℕ → Option ℕ
+bound_of [] rank = None
+bound_of (one ∷ more) rank = if one.0 == rank then Some one.1 else bound_of more rank
 
 abbrev pub without_bound : List (ℕ × ℕ) → ℕ → List (ℕ × ℕ)
 without_bound [] rank = []
@@ -153,24 +168,34 @@ pub record Heads {N : Type 0} (shape : Shape) (rank : ℕ) (before : View N) (fo
   pub list : List Place
   pub view : after ≡ headed rank found list before
   pub first : first_of found ≡ number_to list
+  pub free : AllByRecursion (MayBeFree shape rank) list
+  -- nor is a block of its own reserved
+  pub mine : (block : Place) → 0 < times block (places_of before.private)
+      → MayBeFree shape block.rank block
+  -- the tag is no greater than the bound that a view which is alone has of it
+  pub bounded : IsAlone shape before → (bound : ℕ) → bound_of before.bounds rank ≡ Some bound
+      → tag_of found ≤ bound
   -- a view that is alone and has nothing detached knows how long the list is
   pub counted : IsAlone shape before → before.dirty ≡ []
       → length list + contents_use shape (store_after before.seen) rank + count_on rank
       (places_of before.private) ≡ shape.blocks
 
-pub record MayNext {N : Type 0} (view : View N) (block : Place) : Type 0 where
-  pub note : HeadNote
-  pub noted : note_of view.notes block.rank ≡ Some note
-  pub first : first_of note.head ≡ block.block
-  pub some_block : block.block ≢ 0
+-- the word goes into the note of the block's rank, where the noted list begins with the block
+abbrev pub noted_next : {N : Type 0} → Option HeadNote → Place → ℕ → View N → View N
+noted_next None block next view = view
+noted_next (Some note) block next view =
+    if first_of note.head == block.block then nexted note next view else view
 
+-- the word of a block is what is known of it: of a block of the view's own, and, where the view is
+-- alone, of each block of a list that it has noted
 pub record Nexts {N : Type 0} (shape : Shape) (block : Place) (before : View N) (found : ℕ)
     (after : View N) : Type 0 where
-  pub note : HeadNote
-  pub noted : note_of before.notes block.rank ≡ Some note
-  pub view : after ≡ nexted note found before
+  pub view : after ≡ noted_next (note_of before.notes block.rank) block found before
   pub link : found < 2 ^ 20
-  pub alone : IsAlone shape before → found ≡ number_to (behind note.list)
+  pub own : (next : ℕ) → own_next_of before.private block ≡ Some next → found ≡ next
+  pub alone : IsAlone shape before → (note : HeadNote)
+      → note_of before.notes block.rank ≡ Some note → (k : ℕ) → k < length note.list
+      → get_or note.list k metadata ≡ block → found ≡ number_to (drop (suc k) note.list)
 
 pub record MayLink {N : Type 0} (view : View N) (block : Place) (next : ℕ) : Type 0 where
   pub own : 0 < times block (places_of view.private)
@@ -188,6 +213,8 @@ pub record MayPush {N : Type 0} (shape : Shape) (view : View N) (block : Place)
   pub linked : own.next ≡ Some (first_of head)
   pub tag : tag_of head < 2 ^ 44 - 1
   pub clean : view.dirty ≡ []
+  -- the view has no lock on the object that begins here
+  pub left : hold_of view.locks block ≡ None
 
 abbrev pub Pushes : {N : Type 0} → Shape → ℕ → ℕ → ℕ → View N → ℕ → View N → Type 0
 Pushes shape rank head first before found after =

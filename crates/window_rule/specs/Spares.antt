@@ -1,25 +1,27 @@
 -- The spares of a rank: blocks of its own, chained through their free-list words, as far as its
--- view knows these. The
--- rank keeps the first and the last number of each chain beside its view, so keeping or using a
--- spare is no step.
-use Rattle.std.specs.Prelude.{◌≡◌, ◌≢◌, ℕ, zero, suc, ◌==◌, ◌<◌, List, [], ◌∷◌, get_or, Option, Some, None, if◌then◌else◌}
-use Rattle.std.specs.Option.{unwrap_or}
+-- view knows these. The rank keeps the first and the last number of each chain beside its view, so
+-- keeping or using a spare is no step.
+use Rattle.std.specs.Prelude.{◌≡◌, ℕ, ◌==◌, ◌<◌, List, [], ◌∷◌, length, get_or, set, Some, if◌then◌else◌}
 use Rattle.std.specs.List.{AllByRecursion}
+use Rattle.rma_layout.specs.Shape.{Shape}
 use Rattle.rma_layout.specs.Placement.{Place}
-use Rattle.object_words.specs.Blocks.{on_rank}
-use Rattle.atomic_table.specs.Seated.{TableId}
 use Rattle.window_rule.specs.Partition.{times}
-use Rattle.window_rule.specs.View.{View, OwnBlock}
+use Rattle.window_rule.specs.View.{OwnBlock}
 use Rattle.window_rule.specs.Objects.{number_to}
-use Rattle.window_rule.specs.Pool.{own_of}
+use Rattle.window_rule.specs.Pool.{MayBeFree}
+pub use Rattle.window_rule.specs.Pool.{own_next_of, next_in}
 
-abbrev pub next_in : Option OwnBlock → Option ℕ
-next_in None = None
-next_in (Some one) = one.next
+-- of each home rank the numbers of the first and the last spare, 0 where there is none. There is a
+-- place for each of the 64 ranks that a window may have
+pub record SpareEnds : Type 0 where
+  pub firsts : List ℕ
+  pub lasts : List ℕ
 
--- the free-list word of a block of a view's own, if it is one and the view knows it
-abbrev pub own_next_of : List OwnBlock → Place → Option ℕ
-own_next_of own block = next_in (own_of own block)
+abbrev pub first_spare_of : SpareEnds → ℕ → ℕ
+first_spare_of ends rank = get_or ends.firsts rank 0
+
+abbrev pub last_spare_of : SpareEnds → ℕ → ℕ
+last_spare_of ends rank = get_or ends.lasts rank 0
 
 -- each block leads to the next, and the last to 0
 abbrev pub AreChained : List OwnBlock → List Place → Type 0
@@ -32,32 +34,48 @@ last_number [] = 0
 last_number (block ∷ []) = block.block
 last_number (block ∷ (next ∷ more)) = last_number (next ∷ more)
 
--- the chain behind a number, as a function of what a rank has: so a contract can name its spares
-abbrev pub chain_from : ℕ → List OwnBlock → ℕ → ℕ → List Place
-chain_from zero own rank first = []
-chain_from (suc n) own rank first = if first == 0 then
-    [] else on_rank rank first ∷ chain_from n own rank
-    (unwrap_or (own_next_of own (on_rank rank first)) 0)
-
--- the spares of one home rank
-pub record AreSpares (own : List OwnBlock) (rank first last : ℕ) (list : List Place) : Type 0 where
+-- these are the spares of one home rank, in order
+pub record AreSpares (shape : Shape) (own : List OwnBlock) (rank first last : ℕ)
+    (list : List Place) : Type 0 where
   pub chained : AreChained own list
   pub first_is : first ≡ number_to list
   pub last_is : last ≡ last_number list
-  pub places : AllByRecursion (λ (block : Place). (block.rank ≡ rank) × (block.block ≢ 0)) list
+  pub places : AllByRecursion (MayBeFree shape rank) list
+
+abbrev pub AreSparesOf : Shape → List OwnBlock → SpareEnds → ℕ → List Place → Type 0
+AreSparesOf shape own ends rank list =
+    AreSpares shape own rank (first_spare_of ends rank) (last_spare_of ends rank) list
 
 -- each home rank has a chain of spares
-abbrev pub HasSpares : List OwnBlock → List ℕ → List ℕ → Type 0
-HasSpares own firsts lasts = (rank : ℕ) → rank < 64
-    → (list : List Place) × AreSpares own rank (get_or firsts rank 0) (get_or lasts rank 0) list
+pub record HasSpares (shape : Shape) (own : List OwnBlock) (ends : SpareEnds) : Type 0 where
+  pub firsts_sized : length ends.firsts ≡ 64
+  pub lasts_sized : length ends.lasts ≡ 64
+  pub chains : (rank : ℕ) → rank < 64 → (list : List Place) × AreSparesOf shape own ends rank list
 
-abbrev pub IsNoSpare : List OwnBlock → List ℕ → List ℕ → Place → Type 0
-IsNoSpare own firsts lasts block = (list : List Place)
-    → AreSpares own block.rank (get_or firsts block.rank 0) (get_or lasts block.rank 0) list
+-- the block is among no spares
+abbrev pub IsNoSpare : Shape → List OwnBlock → SpareEnds → Place → Type 0
+IsNoSpare shape own ends block = (list : List Place) → AreSparesOf shape own ends block.rank list
     → times block list ≡ 0
 
-pub record KeeperModel (N : Type 0) : Type 0 where
-  pub window : TableId
-  pub view : View N
-  pub firsts : List ℕ
-  pub lasts : List ℕ
+-- a block that leads to the first spare becomes the first
+abbrev pub with_spare : Place → SpareEnds → SpareEnds
+with_spare block ends = record {
+  firsts = set ends.firsts block.rank block.block;
+  lasts = set ends.lasts block.rank
+      (if first_spare_of ends block.rank == 0 then block.block else last_spare_of ends block.rank);
+}
+
+-- the first spare is one no more, and what it leads to is the first
+abbrev pub without_spare : ℕ → ℕ → SpareEnds → SpareEnds
+without_spare home next ends = record {
+  firsts = set ends.firsts home next;
+  lasts = set ends.lasts home (if next == 0 then 0 else last_spare_of ends home);
+}
+
+-- there is no spare of any rank
+abbrev pub AreNone : List ℕ → Type 0
+AreNone numbers = (length numbers ≡ 64) × ((rank : ℕ) → get_or numbers rank 0 ≡ 0)
+
+pub record HasNone (ends : SpareEnds) : Type 0 where
+  pub firsts : AreNone ends.firsts
+  pub lasts : AreNone ends.lasts

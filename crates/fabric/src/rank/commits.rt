@@ -23,10 +23,11 @@ impl<L: Law> Rank<L> {
     /// Commits what it has attached as the next entry of the history, made under the least of its rights, and answers the
     /// entry's number.
     pub fn commit<C: Enters<L>>(&mut self, window: &Window<L>, note: &C) -> u64
-        requires window { self.old.window ≡ window.now.id }
+        requires window { self.old.window ≡ window.now }
         requires may { MayCommit L.fits window.now.shape self.old.view
             (entry_by self.old.view (C.reads note.now) (C.writes note.now) (C.note note.now)) }
         ensures window { self.new.window ≡ self.old.window }
+        ensures spares { self.new.spares ≡ self.old.spares }
         ensures view { Commits (entry_by self.old.view (C.reads note.now) (C.writes note.now) (C.note note.now))
             self.old.view result self.new.view }
     {
@@ -35,8 +36,9 @@ impl<L: Law> Rank<L> {
 
     /// The length of the history now. All that it knows is so after these entries.
     pub fn place(&mut self, window: &Window<L>) -> u64
-        requires window { self.old.window ≡ window.now.id }
+        requires window { self.old.window ≡ window.now }
         ensures window { self.new.window ≡ self.old.window }
+        ensures spares { self.new.spares ≡ self.old.spares }
         ensures view { Places self.old.view result self.new.view }
         ensures truths { IsTrueView L.fits window.now.shape self.new.view }
         ensures lawful { WasLawful L.fits window.now.shape Word.Commit result self.new.view }

@@ -22,9 +22,10 @@ impl<L: Law> Rank<L> {
     /// then the word that it found, and the place that it had added is taken back.
     #[tactic(auto, using(window_rule::proofs::GateSteps::refused_is_outside, window_rule::proofs::Trails::follows_trans))]
     pub fn writer_try(&mut self, window: &Window<L>) -> Result<(), u64>
-        requires window { self.old.window ≡ window.now.id }
+        requires window { self.old.window ≡ window.now }
         requires outside { self.old.view.gate ≡ Outside }
         ensures window { self.new.window ≡ self.old.window }
+        ensures spares { self.new.spares ≡ self.old.spares }
         ensures view { MatchResult result (λ _. self.new.view ≡ entered AsWriter self.old.view)
             (λ word. self.new.view ≡ refused OfGate want.Writer word self.old.view) }
         ensures cause { IfErr result (λ word. Conflicts want.Writer word) }
@@ -41,10 +42,11 @@ impl<L: Law> Rank<L> {
 
     /// Gives up its writer's place, once nothing of it is detached.
     pub fn writer_leave(&mut self, window: &Window<L>)
-        requires window { self.old.window ≡ window.now.id }
+        requires window { self.old.window ≡ window.now }
         requires writer { self.old.view.gate ≡ AsWriter }
         requires clean { self.old.view.dirty ≡ [] }
         ensures window { self.new.window ≡ self.old.window }
+        ensures spares { self.new.spares ≡ self.old.spares }
         ensures view { self.new.view ≡ entered Outside self.old.view }
         ensures follows { Follows self.old.view self.new.view }
     {
@@ -57,9 +59,10 @@ impl<L: Law> Rank<L> {
     /// is then the word that it found, and the place that it had added is taken back.
     #[tactic(auto, using(window_rule::proofs::GateSteps::refused_is_outside, window_rule::proofs::Trails::follows_trans))]
     pub fn all_try(&mut self, window: &Window<L>) -> Result<(), u64>
-        requires window { self.old.window ≡ window.now.id }
+        requires window { self.old.window ≡ window.now }
         requires outside { self.old.view.gate ≡ Outside }
         ensures window { self.new.window ≡ self.old.window }
+        ensures spares { self.new.spares ≡ self.old.spares }
         ensures view { MatchResult result (λ _. self.new.view ≡ entered AsWhole self.old.view)
             (λ word. self.new.view ≡ refused OfGate want.Whole word self.old.view) }
         ensures cause { IfErr result (λ word. Conflicts want.Whole word) }
@@ -76,9 +79,10 @@ impl<L: Law> Rank<L> {
 
     /// Gives up its whole place, and forgets what it has read of objects that it has not locked.
     pub fn all_leave(&mut self, window: &Window<L>)
-        requires window { self.old.window ≡ window.now.id }
+        requires window { self.old.window ≡ window.now }
         requires whole { self.old.view.gate ≡ AsWhole }
         ensures window { self.new.window ≡ self.old.window }
+        ensures spares { self.new.spares ≡ self.old.spares }
         ensures view { self.new.view ≡ outside self.old.view }
         ensures follows { Follows self.old.view self.new.view }
     {

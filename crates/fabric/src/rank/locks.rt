@@ -25,10 +25,11 @@ impl<L: Law> Rank<L> {
     /// share that it had added is taken back.
     #[tactic(auto, using(window_rule::proofs::LockLemmas::refused_is_unlocked, window_rule::proofs::Trails::follows_trans))]
     pub fn share_try(&mut self, window: &Window<L>, o: DPtr) -> Result<(), u64>
-        requires window { self.old.window ≡ window.now.id }
+        requires window { self.old.window ≡ window.now }
         requires object { IsBlock window.now.shape o }
         requires unlocked { hold_of self.old.view.locks o ≡ None }
         ensures window { self.new.window ≡ self.old.window }
+        ensures spares { self.new.spares ≡ self.old.spares }
         ensures view { MatchResult result (λ _. self.new.view ≡ tried (locked o Shared self.old.view))
             (λ word. self.new.view ≡ refused (OfObject o) want.Share word (tried self.old.view)) }
         ensures cause { IfErr result (λ word. Conflicts want.Share word) }
@@ -45,10 +46,11 @@ impl<L: Law> Rank<L> {
 
     /// Gives up its share of an object.
     pub fn share_leave(&mut self, window: &Window<L>, o: DPtr)
-        requires window { self.old.window ≡ window.now.id }
+        requires window { self.old.window ≡ window.now }
         requires object { IsBlock window.now.shape o }
         requires shared { hold_of self.old.view.locks o ≡ Some Shared }
         ensures window { self.new.window ≡ self.old.window }
+        ensures spares { self.new.spares ≡ self.old.spares }
         ensures view { self.new.view ≡ unlocked o self.old.view }
         ensures follows { Follows self.old.view self.new.view }
     {
@@ -59,10 +61,11 @@ impl<L: Law> Rank<L> {
     ///
     /// It is refused exactly where the lock word is not 0. The answer is then that word.
     pub fn mark_try(&mut self, window: &Window<L>, o: DPtr) -> Result<(), u64>
-        requires window { self.old.window ≡ window.now.id }
+        requires window { self.old.window ≡ window.now }
         requires object { IsBlock window.now.shape o }
         requires unlocked { hold_of self.old.view.locks o ≡ None }
         ensures window { self.new.window ≡ self.old.window }
+        ensures spares { self.new.spares ≡ self.old.spares }
         ensures view { MatchResult result (λ _. self.new.view ≡ tried (locked o Marked self.old.view))
             (λ word. self.new.view ≡ refused (OfObject o) want.Mark word (tried self.old.view)) }
         ensures cause { IfErr result (λ word. Conflicts want.Mark word) }
@@ -81,10 +84,11 @@ impl<L: Law> Rank<L> {
     /// It is refused exactly where the lock word counts another share. The answer is then that word, and it shares the
     /// object still.
     pub fn rise_try(&mut self, window: &Window<L>, o: DPtr) -> Result<(), u64>
-        requires window { self.old.window ≡ window.now.id }
+        requires window { self.old.window ≡ window.now }
         requires object { IsBlock window.now.shape o }
         requires shared { hold_of self.old.view.locks o ≡ Some Shared }
         ensures window { self.new.window ≡ self.old.window }
+        ensures spares { self.new.spares ≡ self.old.spares }
         ensures view { MatchResult result (λ _. self.new.view ≡ tried (locked o Marked self.old.view))
             (λ word. self.new.view ≡ refused (OfObject o) want.Rise word (tried self.old.view)) }
         ensures cause { IfErr result (λ word. Conflicts want.Rise word) }
@@ -100,12 +104,13 @@ impl<L: Law> Rank<L> {
 
     /// Gives up the mark of an object that it has not detached.
     pub fn mark_leave(&mut self, window: &Window<L>, o: DPtr)
-        requires window { self.old.window ≡ window.now.id }
+        requires window { self.old.window ≡ window.now }
         requires object { IsBlock window.now.shape o }
         requires marked { hold_of self.old.view.locks o ≡ Some Marked }
         requires clean { dirt_of self.old.view.dirty o ≡ None }
         requires closed { opened_of self.old.view.stamps.opened o ≡ None }
         ensures window { self.new.window ≡ self.old.window }
+        ensures spares { self.new.spares ≡ self.old.spares }
         ensures view { self.new.view ≡ unlocked o self.old.view }
         ensures follows { Follows self.old.view self.new.view }
     {

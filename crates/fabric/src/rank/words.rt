@@ -1,8 +1,10 @@
 //! The operations on one word, each once. What a call tells is picked by the call.
-ghost use Rattle.std.specs.Prelude.{◌≡◌, ◌+◌, ◌-◌, ◌%◌, ◌^◌, ◌==◌};
+ghost use Rattle.std.specs.Prelude.{◌≡◌, ℕ, ◌+◌, ◌-◌, ◌%◌, ◌^◌, ◌==◌};
 ghost use prog.Atomic.{either};
 ghost use Rattle.rma_layout.specs.Words.{IsWord};
+ghost use Rattle.window_rule.specs.View.{View};
 ghost use Rattle.window_rule.specs.Permits.{Permits};
+ghost use Rattle.window_rule.specs.Trails.{SparesStay};
 
 use crate::plays::{Step, Telling};
 use crate::rank::Rank;
@@ -13,10 +15,13 @@ use rma_layout::Word;
 impl<L: Law> Rank<L> {
     /// Loads a word.
     pub(super) fn load<T: Telling<L::Note>>(&mut self, window: &Window<L>, word: Word) -> u64
-        requires window { self.old.window ≡ window.now.id }
+        requires window { self.old.window ≡ window.now }
         requires word { IsWord window.now.shape word }
         requires permits { Permits L.fits window.now.shape word (λ found. found) self.old.view (T.told self.old.view) }
+        requires spares { (found : ℕ) (after : View L.Note) → T.told self.old.view found after →
+            SparesStay window.now.shape self.old.spares self.old.view after }
         ensures window { self.new.window ≡ self.old.window }
+        ensures spares { self.new.spares ≡ self.old.spares }
         ensures told { T.told self.old.view result self.new.view }
     {
         let number = window.number(word);
@@ -25,10 +30,13 @@ impl<L: Law> Rank<L> {
 
     /// Stores a word.
     pub(super) fn store<T: Telling<L::Note>>(&mut self, window: &Window<L>, word: Word, new: u64)
-        requires window { self.old.window ≡ window.now.id }
+        requires window { self.old.window ≡ window.now }
         requires word { IsWord window.now.shape word }
         requires permits { Permits L.fits window.now.shape word (λ _. new) self.old.view (λ _. T.told self.old.view new) }
+        requires spares { (after : View L.Note) → T.told self.old.view new after →
+            SparesStay window.now.shape self.old.spares self.old.view after }
         ensures window { self.new.window ≡ self.old.window }
+        ensures spares { self.new.spares ≡ self.old.spares }
         ensures told { T.told self.old.view new self.new.view }
     {
         let number = window.number(word);
@@ -45,10 +53,13 @@ impl<L: Law> Rank<L> {
         word: Word,
         k: u64,
     ) -> u64
-        requires window { self.old.window ≡ window.now.id }
+        requires window { self.old.window ≡ window.now }
         requires word { IsWord window.now.shape word }
         requires permits { Permits L.fits window.now.shape word (λ found. (found + k) % 2 ^ 64) self.old.view (T.told self.old.view) }
+        requires spares { (found : ℕ) (after : View L.Note) → T.told self.old.view found after →
+            SparesStay window.now.shape self.old.spares self.old.view after }
         ensures window { self.new.window ≡ self.old.window }
+        ensures spares { self.new.spares ≡ self.old.spares }
         ensures told { T.told self.old.view result self.new.view }
     {
         let number = window.number(word);
@@ -66,10 +77,13 @@ impl<L: Law> Rank<L> {
         k: u64,
         about: &A,
     ) -> u64
-        requires window { self.old.window ≡ window.now.id }
+        requires window { self.old.window ≡ window.now }
         requires word { IsWord window.now.shape word }
         requires permits { Permits L.fits window.now.shape word (λ found. (found + k) % 2 ^ 64) self.old.view (T.told self.old.view) }
+        requires spares { (found : ℕ) (after : View L.Note) → T.told self.old.view found after →
+            SparesStay window.now.shape self.old.spares self.old.view after }
         ensures window { self.new.window ≡ self.old.window }
+        ensures spares { self.new.spares ≡ self.old.spares }
         ensures told { T.told self.old.view result self.new.view }
     {
         let _about = about;
@@ -83,10 +97,13 @@ impl<L: Law> Rank<L> {
         word: Word,
         k: u64,
     ) -> u64
-        requires window { self.old.window ≡ window.now.id }
+        requires window { self.old.window ≡ window.now }
         requires word { IsWord window.now.shape word }
         requires permits { Permits L.fits window.now.shape word (λ found. (found + (2 ^ 64 - k)) % 2 ^ 64) self.old.view (T.told self.old.view) }
+        requires spares { (found : ℕ) (after : View L.Note) → T.told self.old.view found after →
+            SparesStay window.now.shape self.old.spares self.old.view after }
         ensures window { self.new.window ≡ self.old.window }
+        ensures spares { self.new.spares ≡ self.old.spares }
         ensures told { T.told self.old.view result self.new.view }
     {
         let number = window.number(word);
@@ -104,10 +121,13 @@ impl<L: Law> Rank<L> {
         old: u64,
         new: u64,
     ) -> u64
-        requires window { self.old.window ≡ window.now.id }
+        requires window { self.old.window ≡ window.now }
         requires word { IsWord window.now.shape word }
         requires permits { Permits L.fits window.now.shape word (λ found. either (found == old) new found) self.old.view (T.told self.old.view) }
+        requires spares { (found : ℕ) (after : View L.Note) → T.told self.old.view found after →
+            SparesStay window.now.shape self.old.spares self.old.view after }
         ensures window { self.new.window ≡ self.old.window }
+        ensures spares { self.new.spares ≡ self.old.spares }
         ensures told { T.told self.old.view result self.new.view }
     {
         let number = window.number(word);

@@ -3,7 +3,7 @@ use Rattle.window_rule.specs.View.{Marked}
 use Rattle.window_rule.specs.Steps.{locked, tried}
 use Rattle.window_rule.specs.Stamping.{stamped}
 use Rattle.window_rule.specs.Reads.{MayPut, put_in}
-use Rattle.window_rule.proofs.PairSteps.{may_put, may_attach_two, may_commit, may_close, still_marked, is_shut, still_writer, at_rest, is_next}
+use Rattle.window_rule.proofs.PairSteps.{may_put, may_attach_two, pair_spares_left, may_commit, may_close, still_marked, is_shut, still_writer, at_rest, is_next}
 use Rattle.fabric.proofs.examples.write_pair.Goals as goal
 
 pub put-requires-clause-may : goal.put-requires-clause-may
@@ -46,6 +46,18 @@ attach-requires-clause-may g c =
     (c.put-3.ensures.view
     ∙ ap (put_in c.args.o 2 c.args.second)
     (c.put-2.ensures.view ∙ ap (put_in c.args.o 1 c.args.first) c.put.ensures.view))
+
+pub attach-requires-clause-spares_left : goal.attach-requires-clause-spares_left
+attach-requires-clause-spares_left g c =
+    pair_spares_left _ _ c.requires.object c.requires.reserved _ c.requires.rest _
+    (c.stamp_up.ensures.view
+    ∙ ap (stamped c.args.o)
+    (c.in_default.ensures.view
+    ∙ ap (λ v. tried (locked c.args.o Marked v)) c.in_ok-writer_try.ensures.view))
+    _ c.detach.ensures.view c.requires.wide _ _ _
+    (c.put-3.ensures.view
+    ∙ ap (put_in c.args.o 2 c.args.second)
+    (c.put-2.ensures.view ∙ ap (put_in c.args.o 1 c.args.first) c.put.ensures.view)) _
 
 pub commit-number-requires-clause-may : goal.commit-number-requires-clause-may
 commit-number-requires-clause-may g c =

@@ -3,4 +3,4 @@ use Rattle.window_rule.specs.Pairs.{IsAtRest}
 use Rattle.fabric.proofs.tests.read_often.Given as goal
 
 abbrev pub invariant-loop : goal.invariant-loop
-invariant-loop l = (l.rank.window ≡ l.window.id) × IsAtRest l.rank.view
+invariant-loop l = (l.rank.window ≡ l.window) × IsAtRest l.rank.view

@@ -4,4 +4,4 @@ use Rattle.fabric.proofs.tests.write_often.Given as goal
 
 abbrev pub invariant-loop-k : goal.invariant-loop-k
 invariant-loop-k l =
-    (l.rank.window ≡ l.window.id) × IsAtRest l.rank.view × (l.times ≤ l.rank.view.allowance + l.k) × (l.written ≤ l.k)
+    (l.rank.window ≡ l.window) × IsAtRest l.rank.view × (l.times ≤ l.rank.view.allowance + l.k) × (l.written ≤ l.k)

@@ -7,3 +7,6 @@ pub fetch_sub-requires-clause-permits : goal.fetch_sub-requires-clause-permits
 fetch_sub-requires-clause-permits g c =
     following g.L.Law.fits _ _ _ _ _ (whole_leave_permitted g.L.Law.fits _ _ c.requires.whole)
     (λ _ _ told. stays c.args.self.now.view _ _ told refl)
+
+pub fetch_sub-requires-clause-spares : goal.fetch_sub-requires-clause-spares
+fetch_sub-requires-clause-spares g c = λ found after told. told.2 _ _

@@ -8,3 +8,6 @@ load-requires-clause-permits g c =
     following g.L.Law.fits _ _ _ _ _
     (get_permitted g.L.Law.fits _ _ _ _)
     (λ _ _ told. stays c.args.self.now.view _ _ told.view refl)
+
+pub load-requires-clause-spares : goal.load-requires-clause-spares
+load-requires-clause-spares g c = λ found after told. told.2 _ _

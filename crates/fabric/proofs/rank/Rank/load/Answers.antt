@@ -1,16 +1,14 @@
-use Rattle.std.proofs.Common.{sym, ◌∙◌}
-use Rattle.fabric.proofs.Calls.{step_call}
+use Rattle.fabric.proofs.Calls.{rank_keeps, step_call}
 use Rattle.fabric.proofs.rank.Rank.load.Goals as goal
 
 pub load-requires : goal.load-requires
 load-requires g c =
-    step_call g.L.Law.fits _ _ _ (λ found. found) g.T.Telling.told c.args.word _ _ _ _ _ _ _
-    c.window.view_is c.window.invariant c.self.view_is c.self.invariant.1 c.requires.window
+    step_call g.L.Law.fits _ _ _ (λ found. found) g.T.Telling.told c.args.word _ _ _ _ _ _ _ _ _
+    c.window.view_is c.window.invariant c.self.view_is c.self.invariant.live c.requires.window
     c.requires.word c.number-number.ensures c.requires.permits
 
 pub invariant_of-self : goal.invariant_of-self
-invariant_of-self g c = (
-  c.load.ensures.2.2
-      ∙ c.self.invariant.0,
-  λ none. c.self.invariant.1 (sym c.load.ensures.2.1 ∙ none),
-)
+invariant_of-self g c =
+    rank_keeps _ _ _ _ _ _ _
+    (λ before. g.T.Telling.told before c.load.result c.load.new.seat.me.0) c.self.view_is
+    c.requires.window c.self.invariant c.load.ensures.2 (c.requires.spares _ _)

@@ -8,3 +8,7 @@ compare_exchange-word-requires-clause-permits g c =
     following g.L.Law.fits _ _ _ _ _
     (rise_permitted g.L.Law.fits _ _ c.requires.object _ c.requires.shared)
     (rises_on _ _ _)
+
+pub compare_exchange-word-requires-clause-spares :
+    goal.compare_exchange-word-requires-clause-spares
+compare_exchange-word-requires-clause-spares g c = λ found after told. told.2 _ _

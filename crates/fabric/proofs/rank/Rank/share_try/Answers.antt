@@ -19,3 +19,9 @@ fetch_sub-requires-clause-permits g c =
     (c.fetch_add-word.ensures.told.0.failed (c.conflicts.ensures.0 c.if-conflicts.true))
     ∙ hold_of-with_same _ c.args.o Returning))
     (λ _ _ told. stays c.fetch_add-word.new.self.view _ _ told refl)
+
+pub fetch_add-word-requires-clause-spares : goal.fetch_add-word-requires-clause-spares
+fetch_add-word-requires-clause-spares g c = λ found after told. told.2 _ _
+
+pub fetch_sub-requires-clause-spares : goal.fetch_sub-requires-clause-spares
+fetch_sub-requires-clause-spares g c = λ found after told. told.2 _ _

@@ -8,3 +8,6 @@ fetch_add-requires-clause-permits g c =
     following g.L.Law.fits _ _ _ _ _
     (stamp_permitted g.L.Law.fits _ _ _ c.requires.object c.requires.may)
     (λ _ _ told. stays c.args.self.now.view _ _ told refl)
+
+pub fetch_add-requires-clause-spares : goal.fetch_add-requires-clause-spares
+fetch_add-requires-clause-spares g c = λ found after told. told.2 _ _

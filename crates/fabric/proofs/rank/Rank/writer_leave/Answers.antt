@@ -8,3 +8,6 @@ fetch_sub-requires-clause-permits g c =
     following g.L.Law.fits _ _ _ _ _
     (writer_leave_permitted g.L.Law.fits _ _ c.requires.writer c.requires.clean)
     (λ _ _ told. stays c.args.self.now.view _ _ told refl)
+
+pub fetch_sub-requires-clause-spares : goal.fetch_sub-requires-clause-spares
+fetch_sub-requires-clause-spares g c = λ found after told. told.2 _ _

@@ -8,14 +8,14 @@ of_words-requires g c =
     (opening_is_lawful g.L.Law.fits c.args.geometry _ c.keeps_ranges.ensures
     c.in_ok-words.ensures)
 
-pub seated-requires-clause-live : goal.seated-requires-clause-live
-seated-requires-clause-live g c = first_is_live c.args.geometry _ c.keeps_ranges.ensures
+pub seated-rank-requires-clause-live : goal.seated-rank-requires-clause-live
+seated-rank-requires-clause-live g c = first_is_live c.args.geometry _ c.keeps_ranges.ensures
     (ap (λ me. me.0) c.in_ok-table.ensures.4)
 
 pub returns-clause-alone : goal.returns-clause-alone
 returns-clause-alone g c = first_is_alone c.args.geometry _
-    (c.seated.ensures.view ∙ ap (λ me. me.0) c.in_ok-table.ensures.4)
+    (c.seated-rank.ensures.view ∙ ap (λ me. me.0) c.in_ok-table.ensures.4)
 
 pub returns-clause-lists : goal.returns-clause-lists
 returns-clause-lists g c = λ rank below. first_lists c.args.geometry _
-    (c.seated.ensures.view ∙ ap (λ me. me.0) c.in_ok-table.ensures.4) rank below
+    (c.seated-rank.ensures.view ∙ ap (λ me. me.0) c.in_ok-table.ensures.4) rank below

@@ -1,0 +1,3 @@
+pub mod MovesKept
+pub mod TriesKept
+pub mod SparesTaken

@@ -1,0 +1,13 @@
+//! Blocks for the objects of a window: taken from free lists, and given back to them.
+#![tactic(auto)]
+
+mod refused;
+mod taking;
+#[cfg(test)]
+mod tests;
+
+pub use refused::PoolRefused;
+pub use taking::take;
+
+/// After so many failed exchanges on a head a call gives up.
+const MOST_EXCHANGES: u64 = 64;

@@ -1,0 +1,27 @@
+use crate::{PoolRefused, take};
+use fabric::Window;
+use object_words::Law;
+use rma_layout::{DPtr, Geometry};
+use std::test::Fail;
+
+/// A law that every entry satisfies.
+struct Anything;
+
+impl Law for Anything {
+    type Note = ();
+
+    ghost fits = { λ _ _. Unit {0} };
+}
+
+#[test]
+fn blocks_are_taken_until_none_is_left(rt: HostRuntime) -> Result<(), Fail> {
+    let (window, mut rank) = Window::<Anything>::new(rt.alloc(), Geometry::new(1, 8, 8, 2, 2)?)?;
+    assert_eq!(rt; rank.head(&window, 0), 5);
+    assert_eq!(rt; take(&window, &mut rank, 0), Ok(DPtr::new(0, 5)));
+    assert_eq!(rt; rank.head(&window, 0), 1_048_582);
+    assert_eq!(rt; take(&window, &mut rank, 0), Ok(DPtr::new(0, 6)));
+    assert_eq!(rt; take(&window, &mut rank, 0), Ok(DPtr::new(0, 7)));
+    let none = Err(PoolRefused::Empty { head: 3_145_728 });
+    assert_eq!(rt; take(&window, &mut rank, 0), none);
+    Ok(())
+}
