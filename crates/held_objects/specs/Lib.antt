@@ -1,2 +1,3 @@
 pub mod Knows
 pub mod Held
+pub mod Changes

@@ -1,2 +1,3 @@
 pub mod look;
 pub mod put;
+pub mod settle;

@@ -1,10 +1,11 @@
 ghost use Rattle.std.specs.Prelude.{◌≡◌, ◌≢◌, ℕ, List, IfOk, MatchOption};
 ghost use Rattle.holder_codec.specs.Bucket.{IsBucketHolder, bucket_words};
 ghost use Rattle.holder_codec.specs.Index.{IsIndexHolder, index_words};
+ghost use Rattle.holder_codec.specs.Meta.{IsMetaHolder, meta_words};
 ghost use Rattle.holder_codec.specs.Vertex.{IsVertexHolder, vertex_words};
 
 use gdi_kinds::NoMemory;
-use holder_codec::{BucketHolder, IndexHolder, VertexHolder};
+use holder_codec::{BucketHolder, IndexHolder, MetaHolder, VertexHolder};
 use object_words::Words;
 use std::alloc::Global;
 
@@ -35,6 +36,20 @@ impl Holder for BucketHolder {
 
     fn read_words(alloc: Global, words: &Words) -> Result<Option<BucketHolder>, NoMemory> {
         BucketHolder::read(alloc, words)
+    }
+}
+
+impl Holder for MetaHolder {
+    ghost IsHolder = { IsMetaHolder };
+
+    ghost words_of = { meta_words };
+
+    fn write_words(&self, alloc: Global) -> Result<Words, NoMemory> {
+        self.write(alloc)
+    }
+
+    fn read_words(alloc: Global, words: &Words) -> Result<Option<MetaHolder>, NoMemory> {
+        MetaHolder::read(alloc, words)
     }
 }
 

@@ -2,8 +2,11 @@
 #![tactic(auto)]
 
 mod calls;
+mod change;
 mod holder;
 
 pub use calls::look::look;
 pub use calls::put::put;
+pub use calls::settle::settle;
+pub use change::Change;
 pub use holder::Holder;

@@ -4,7 +4,7 @@ use Rattle.std.specs.Option.{unwrap_or}
 use Rattle.std.specs.Result.{IsOkAnd}
 use Rattle.std.specs.Prelude.{is_some, ◌++◌}
 use mathlib.Core.List.{IsPrefix}
-use Rattle.std.proofs.lemmas.List.{append_assoc}
+use Rattle.std.proofs.lemmas.List.{append_assoc, append-nil}
 use Rattle.std.specs.Ordering.{eq_by_cmp}
 use Rattle.rma_layout.specs.Shape.{Shape}
 use Rattle.rma_layout.specs.Placement.{Place}
@@ -15,7 +15,7 @@ use Rattle.object_words.proofs.Places.{words_at-with_words, words_at_here, place
 use Rattle.object_words.proofs.Overlays.{content-overlay, put_over}
 use Rattle.object_store.specs.declared.phase.Phase.TheVariants.{Writing}
 use Rattle.object_store.specs.State.{StoreState, Said, committed, names_nothing, names_object, names_rank}
-use Rattle.object_store.specs.Sound.{Continues, StaysExplained, KeepsCommits, StaysBegun}
+use Rattle.object_store.specs.Sound.{Continues, IsSound, StaysExplained, KeepsCommits, StaysBegun}
 use Rattle.object_store.specs.Calls.{Aborts, MayWrite, ReadsObject, WritesObject, MakesObject, made_so_far}
 use Rattle.object_store.specs.Refusals.{RefusesAccess, RefusesFresh}
 use Rattle.object_store.specs.Works.{Reaches, RefusesReach}
@@ -77,6 +77,56 @@ named_before left (inl reached) = inl reached
 named_before (inl reached) (inr (inl read)) = inl reached
 named_before (inr same) (inr (inl read)) = inr (inl (subst IsSome same read))
 named_before left (inr (inr made)) = inr (inr made)
+
+-- an object that is reached is one of a rank on which one is made
+pub refuses-homes : {N : Type 0} {old new : StoreState N} {Reached : Place → Type 0} {Makes : ℕ → Type 0} {said : Said} → ((place : Place) → Reached place → Makes place.rank)
+    → RefusesReach Reached Makes old new said → RefusesReach (λ _. ⊥) Makes old new said
+refuses-homes {old = old} {Reached = Reached} {Makes = Makes} homes did = record {
+  aborted = did.aborted;
+  names = elim did.names [
+    | inl nothing ↦ inl nothing
+    | inr (inl (object, is, why)) ↦ inr (inl (object, is, told object why))
+    | inr (inr rank) ↦ inr (inr rank)
+  ];
+  told = did.told;
+  full = did.full;
+  passing = did.passing;
+}
+  where
+    told : (object : Place) → Reached object ⊎ IsSome (words_at old.reads object) ⊎ Makes object.rank → ⊥ ⊎ IsSome (words_at old.reads object) ⊎ Makes object.rank
+    told object (inl reached) = inr (inr (homes object reached))
+    told object (inr other) = inr other
+
+-- ---- nothing done
+
+module _ {N : Type 0} {state : StoreState N} where
+  pub stays-same : StaysBegun state state
+  stays-same = record {
+    shape = refl;
+    phase = refl;
+    commits = record { own = refl; allowance = refl; seen = λ _. refl };
+    most = refl;
+    strict = refl;
+    tries = refl;
+    changes = refl;
+    reads = λ _ _ is. is;
+  }
+
+  pub continues-same : {fits : Shape → Entry N → Type 0} → IsSound fits state → Continues fits state state
+  continues-same sound = record {
+    shape = refl;
+    base = refl;
+    counts_blocks = refl;
+    seen = ([], append-nil state.seen);
+    changes = ([], append-nil state.changes);
+    clean = λ _ clean. clean;
+    takes = omega arith;
+    lock_free = λ _ _. refl;
+    sound = sound;
+  }
+
+  pub reaches-same : {Reached : Place → Type 0} {Makes : ℕ → Type 0} → Reaches Reached Makes state state
+  reaches-same = record { stays = stays-same; reads = λ _. inr refl; writes = λ _. inr refl; made = λ _ _. inr refl }
 
 -- ---- one part and then another
 

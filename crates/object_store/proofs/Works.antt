@@ -1,14 +1,14 @@
 -- A call that does its work by several calls: the ends of the parts make one of the whole.
-use Rattle.std.proofs.Common.{Result, Ok, Err, IfOk, IfErr, ℕ, List, ◌∙◌, subst}
+use Rattle.std.proofs.Common.{◌≡◌, Result, Ok, Err, IfOk, IfErr, ℕ, List, ◌∙◌, subst}
 use Rattle.rma_layout.specs.Shape.{Shape}
 use Rattle.rma_layout.specs.Placement.{Place}
 use Rattle.object_words.specs.Entries.{Entry}
 use Rattle.object_store.specs.State.{StoreState, Said}
-use Rattle.object_store.specs.Sound.{Continues, StaysExplained}
+use Rattle.object_store.specs.Sound.{Continues, IsSound, StaysExplained}
 use Rattle.object_store.specs.Calls.{MayWrite, ReadsObject, WritesObject, MakesObject}
 use Rattle.object_store.specs.Refusals.{RefusesAccess, RefusesFresh}
 use Rattle.object_store.specs.Works.{At, Nowhere, On, Looks, Reaches, RefusesReach, Went, Fell, GaveUp, Works}
-use Rattle.object_store.proofs.Working.{explained-then, continues-then, stays-then, reaches-then, refuses-then, reaches-wider, refuses-wider, read_reaches, write_reaches, fresh_reaches, access_refuses, fresh_refuses, gives_up_refuses}
+use Rattle.object_store.proofs.Working.{explained-then, continues-then, continues-same, reaches-same, stays-then, reaches-then, refuses-then, reaches-wider, refuses-wider, refuses-homes, read_reaches, write_reaches, fresh_reaches, access_refuses, fresh_refuses, gives_up_refuses}
 
 pub looks-then : {N : Type 0} {old mid new : StoreState N} → Looks old mid → Looks mid new → Looks old new
 looks-then a b = record { stays = stays-then a.stays b.stays; writes = b.writes ∙ a.writes }
@@ -40,6 +40,11 @@ module _ {N S E : Type 0} {fits : Shape → Entry N → Type 0} {state : S → S
           → ((place : Place) → Reached (state old).shape place → One (state old).shape place) → ((rank : ℕ) → Makes (state old).shape rank → Homes (state old).shape rank)
           → Fell fits state explains says Reached Makes old new why → Fell fits state explains says One Homes old new why
       fell_wider wider homes fell = record { keeps = fell.keeps; refused = refuses-wider wider homes fell.refused; explained = fell.explained; explained_still = fell.explained_still }
+
+      -- an object that was made is one of a rank on which one is made
+      pub fell_homes : {old new : S} {why : E} → ((place : Place) → Reached (state old).shape place → Makes (state old).shape place.rank)
+          → Fell fits state explains says Reached Makes old new why → Fell fits state explains says (λ _ _. ⊥) Makes old new why
+      fell_homes homes fell = record { keeps = fell.keeps; refused = refuses-homes homes fell.refused; explained = fell.explained; explained_still = fell.explained_still }
 
       -- of a part that made no object, and one that may make some
       pub went-fell : {old mid new : S} {why : E} → Went fits state explains Reached Nowhere old mid → Fell fits state explains says Reached Makes mid new why → Fell fits state explains says Reached Makes old new why
@@ -88,6 +93,15 @@ module _ {N S E : Type 0} {fits : Shape → Entry N → Type 0} {state : S → S
   pub fresh_went : {old new : S} {home : ℕ} {object : Place} → Continues fits (state old) (state new) → MakesObject home (state old) (state new) object → StaysExplained explains old new
       → Went fits state explains (At object) (On home) old new
   fresh_went {old} {new} {home} {object} keeps did still = record { keeps = keeps; reaches = fresh_reaches home object did; explained_still = still }
+
+  -- nothing was done
+  pub same_went : {Reached : Shape → Place → Type 0} {Makes : Shape → ℕ → Type 0} {old new : S} → state new ≡ state old → IsSound fits (state new) → StaysExplained explains old new
+      → Went fits state explains Reached Makes old new
+  same_went {Reached} {Makes} {old} {new} same sound still = record {
+    keeps = subst (λ (before : StoreState N). Continues fits before (state new)) same (continues-same sound);
+    reaches = subst (λ (before : StoreState N). Reaches (Reached before.shape) (Makes before.shape) before (state new)) same reaches-same;
+    explained_still = still;
+  }
 
   module _ {says : E → Said} where
     pub access_fell : {old new : S} {object : Place} {why : E} → Continues fits (state old) (state new) → RefusesAccess object (state old) (state new) (says why)

@@ -1,0 +1,21 @@
+use Rattle.std.proofs.Common.{◌≡◌, ◌∙◌, refl, sym, ap, subst, length, Some, ltb-true}
+use Rattle.std.specs.Prelude.{slice_get}
+use Rattle.holder_codec.specs.declared.type_line.TypeLine.{TypeLine}
+use Rattle.holder_codec.specs.declared.meta_holder.MetaHolder.{MetaHolder}
+use Rattle.held_objects.proofs.Changes.{tells, read_part, holds_any}
+use Rattle.meta_tables.specs.Names.{is_type}
+use Rattle.meta_tables.proofs.Naming.{meta_same}
+use Rattle.meta_tables.proofs.calls.prop_name.prop_name.Goals as goal
+
+pub read_names-requires-clause-names : goal.read_names-requires-clause-names
+read_names-requires-clause-names g c = holds_any c.requires.in_use
+
+pub at-requires : goal.at-requires
+at-requires g c =
+    let part = read_part (λ meta. meta) (λ _. Unit {0}) meta_same c.in_ok-meta.ensures.found c.requires.in_use in
+    ltb-true c.args.number (length c.in_ok-meta.meta.types) (ap (is_type c.args.number) part.2 ∙ part.3)
+
+pub returns-clause-found : goal.returns-clause-found
+returns-clause-found g c =
+    tells (λ meta. meta) (λ _. Unit {0}) meta_same c.in_ok-meta.ensures.found (holds_any c.requires.in_use)
+    (λ meta _ same. subst (λ (meta : MetaHolder). (line : TypeLine) × (slice_get meta.types c.args.number ≡ Some line) × (line.name ≡ c.at.result.now.name)) same (c.at.result.now, c.at.ensures, refl))

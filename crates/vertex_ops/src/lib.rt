@@ -1,0 +1,15 @@
+//! A vertex in its object: its labels and properties, as a transaction finds and changes them.
+#![tactic(auto)]
+
+mod calls;
+mod labels;
+mod opened;
+#[cfg(test)]
+mod tests;
+
+pub use calls::clear::clear;
+pub use calls::clear_label::clear_label;
+pub use calls::keep::keep;
+pub use calls::load::load;
+pub use calls::make::make;
+pub use calls::set_label::set_label;
