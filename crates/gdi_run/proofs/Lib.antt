@@ -1,8 +1,3 @@
-mod FirstLine
-mod Identifiers
-mod Leads
-mod Parts
 mod PlainRuns
+pub mod Refused
 mod SerialIsLegal
-mod Sound
-mod TokenOf

@@ -1,28 +1,23 @@
--- Plain scripts: transactions of `vertex` and `has` that end, with few vertices, fit the standard geometry and answer words.
-use Rattle.std.proofs.Common.{◌≡◌, ℕ, suc, ◌+◌, ◌<◌, ◌≤◌, Bool, true, false, List, [], ◌∷◌, ◌++◌, length, if◌then◌else◌, get_or, drop, sum_by, refl, sym, ap, subst, ◌∙◌, arith}
+-- Plain scripts: transactions of `vertex` and `has` that end, with few vertices, fit the standard geometry.
+use Rattle.std.proofs.Common.{◌≡◌, ℕ, suc, ◌+◌, ◌<◌, ◌≤◌, Bool, true, false, List, [], ◌∷◌, ◌++◌, length, get_or, drop, sum_by, refl, sym, ap, subst, ◌∙◌, arith}
 use Rattle.std.specs.List.{AllByRecursion, list_any}
 use Rattle.std.proofs.lemmas.List.{append-nil, drop_all, length-append}
 use Rattle.std.proofs.lemmas.List.Sums.{sum_by-cons, get_or-le-sum_by}
 use Rattle.gdi_kinds.specs.declared.call.Call.{Call}
 use Rattle.gdi_kinds.specs.declared.call.Call.TheVariants.{Vertex, Has, DropVertex}
-use Rattle.gdi_kinds.specs.declared.reply.Reply.{Reply}
-use Rattle.gdi_kinds.specs.declared.reply.Reply.TheVariants as reply
 use Rattle.gdi_kinds.specs.declared.txn.Txn.{Txn}
 use Rattle.gdi_kinds.specs.declared.outcome.Line.{Line}
 use Rattle.rma_layout.specs.Shape.{Shape, standard_shape}
-use Rattle.graph_model.specs.Maps.{has}
 use Rattle.graph_model.specs.Graph.{Graph, empty_graph}
 use Rattle.graph_model.specs.Bare.{IsBareCall, bare_graph}
 use Rattle.gdi_kinds.specs.Calls.{is_writing_call, is_writing}
-use Rattle.graph_model.specs.Transactions.{graph_after_txn, replies_to}
+use Rattle.graph_model.specs.Transactions.{graph_after_txn}
 use Rattle.graph_model.specs.Placed.{Placed, placed_from, sections_from, transactions_of}
 use Rattle.graph_model.specs.LegalRun.{IsLegalRun}
-use Rattle.graph_model.proofs.VertexSteps.{is_bucket_full}
-use Rattle.graph_model.proofs.Bare.{ids_after_calls, reply_by_ids, graph_after_calls-bare, replies_to_calls-bare, length-after_calls}
+use Rattle.graph_model.proofs.Bare.{ids_after_calls, graph_after_calls-bare, length-after_calls}
 use Rattle.graph_model.proofs.Room.{full_rank-default}
-use Rattle.gdi_run.specs.ScriptText.{IsPlainTxn, IsBareScript, MayHold, vertex_calls}
-use Rattle.gdi_run.specs.OutputText.{IsOneWord, HasWords}
-use Rattle.gdi_run.specs.Serial.{ends, entries_after, serial_lines, serial_writes, next_entries}
+use Rattle.gdi_run.specs.BareScripts.{IsPlainTxn, IsBareScript, MayHold, vertex_calls}
+use Rattle.gdi_run.specs.Serial.{entries_after, serial_lines, serial_writes, next_entries}
 use Rattle.gdi_run.proofs.SerialIsLegal.{Fits, entries_rise, serial_is_legal}
 
 is_bare : (c : Call) → MayHold c → IsBareCall c
@@ -33,16 +28,6 @@ is_bare c h = absurd h
 pub are_bare : (cs : List Call) → AllByRecursion MayHold cs → AllByRecursion IsBareCall cs
 are_bare [] h = tt
 are_bare (c ∷ cs) h = (is_bare c h.0, are_bare cs h.1)
-
--- what they answer is one word
-is_word : (ids : List ℕ) (c : Call) → MayHold c → IsOneWord (reply_by_ids standard_shape ids c)
-is_word ids (Vertex id) h =
-    elim (has ids id) as (λ there. IsOneWord (if there then reply.Exists else (if is_bucket_full standard_shape (bare_graph ids).vertices id then reply.TooLarge else reply.Done))) [
-      | true ↦ tt
-      | false ↦ elim (is_bucket_full standard_shape (bare_graph ids).vertices id) as (λ full. IsOneWord (if full then reply.TooLarge else reply.Done)) [ true ↦ tt | false ↦ tt ]
-    ]
-is_word ids (Has id) h = elim (has ids id) as (λ there. IsOneWord (if there then reply.Yes else reply.No)) [ true ↦ tt | false ↦ tt ]
-is_word ids c h = absurd h
 
 -- calls that don't write are `has`, and leave the vertices
 reading_leaves : (shape : Shape) (ids : List ℕ) (cs : List Call) → AllByRecursion IsBareCall cs → list_any is_writing_call cs ≡ false → ids_after_calls shape ids cs ≡ ids
@@ -57,30 +42,15 @@ abbrev vertices_in : List Placed → ℕ
 vertices_in [] = 0
 vertices_in (p ∷ ps) = vertex_calls p.txn + vertices_in ps
 
-record FitsAndWords (ids : List ℕ) (k : ℕ) (ps : List Placed) : Type 0 where
-  fits : Fits standard_shape (bare_graph ids) ps
-  words : AllByRecursion HasWords (serial_lines standard_shape (bare_graph ids) k ps)
-
-ends_in_words : (a w : Bool) (k section number : ℕ) (rs : List Reply) → AllByRecursion IsOneWord rs → HasWords (record { section = section; txn = number; outcome = ends a w k rs })
-ends_in_words true w k section number rs words = tt
-ends_in_words false true k section number rs words = words
-ends_in_words false false k section number rs words = words
-
-plain_run : (ids : List ℕ) (k : ℕ) (ps : List Placed) → AllByRecursion (λ p. IsPlainTxn p.txn) ps → length ids + vertices_in ps ≤ 500 → FitsAndWords ids k ps
-plain_run ids k [] plain few = record { fits = tt; words = tt }
+plain_run : (ids : List ℕ) (k : ℕ) (ps : List Placed) → AllByRecursion (λ p. IsPlainTxn p.txn) ps → length ids + vertices_in ps ≤ 500 → Fits standard_shape (bare_graph ids) ps
+plain_run ids k [] plain few = tt
 plain_run ids k (p ∷ ps) plain few =
     let bare = are_bare p.txn.calls plain.0.calls in
     let ids' = ids_after_calls standard_shape ids p.txn.calls in
     let after : graph_after_txn standard_shape (bare_graph ids) p.txn ≡ bare_graph ids' = rw plain.0.ends (graph_after_calls-bare standard_shape ids p.txn.calls bare) in
     let rest = plain_run ids' (next_entries k p.txn) ps plain.1 (omega (arith, length-after_calls standard_shape ids p.txn.calls)) in
     let stays : is_writing p.txn ≡ false → graph_after_txn standard_shape (bare_graph ids) p.txn ≡ bare_graph ids = λ reads. after ∙ ap bare_graph (reading_leaves standard_shape ids p.txn.calls bare reads) in
-    record {
-      fits = ((full_rank-default ids p.txn bare (omega arith), stays), subst (λ g. Fits standard_shape g ps) (sym after) rest.fits);
-      words = (
-        ends_in_words p.txn.aborts (is_writing p.txn) k p.section p.number (replies_to standard_shape (bare_graph ids) p.txn) (replies_to_calls-bare standard_shape MayHold IsOneWord is_bare is_word ids p.txn.calls plain.0.calls),
-        subst (λ g. AllByRecursion HasWords (serial_lines standard_shape g (next_entries k p.txn) ps)) (sym after) rest.words,
-      );
-    }
+    ((full_rank-default ids p.txn bare (omega arith), stays), subst (λ g. Fits standard_shape g ps) (sym after) rest)
 
 -- ---- the transactions of a script
 
@@ -109,7 +79,7 @@ plain-sections : (n : ℕ) (sections : List (List Txn)) → AllByRecursion (AllB
 plain-sections n [] h = tt
 plain-sections n (ts ∷ sections) h = all-append _ (placed_from n 1 ts) _ (plain-placed n 1 ts h.0) (plain-sections (n + 1) sections h.1)
 
-whole_run : (script : List (List Txn)) → IsBareScript script → FitsAndWords [] 0 (transactions_of script)
+whole_run : (script : List (List Txn)) → IsBareScript script → Fits standard_shape (bare_graph []) (transactions_of script)
 whole_run script plain = plain_run [] 0 (transactions_of script) (plain-sections 1 script plain.txns) (omega (arith, vertices_in-sections 1 script, plain.few_vertices))
 
 -- ---- what a loop over the sections leaves
@@ -145,11 +115,10 @@ few_writes script writes i plain lt same =
 pub plain_is_legal : (script : List (List Txn)) (lines : List Line) (g : Graph) (writes i : ℕ) → IsBareScript script → length script ≤ i
     → lines ++ serial_lines standard_shape g writes (sections_from (i + 1) (drop i script)) ≡ serial_lines standard_shape empty_graph 0 (transactions_of script)
     → serial_writes writes (sections_from (i + 1) (drop i script)) ≡ serial_writes 0 (transactions_of script)
-    → IsLegalRun standard_shape [] script (record { lines = lines; writes = writes }) × AllByRecursion HasWords lines
+    → IsLegalRun standard_shape [] script (record { lines = lines; writes = writes })
 plain_is_legal script lines g writes i plain le same_lines same_writes =
     let none : drop i script ≡ [] = drop_all i script le in
     let lines_are : lines ≡ serial_lines standard_shape empty_graph 0 (transactions_of script)
     = sym (append-nil lines) ∙ ap (λ (rest : List (List Txn)). lines ++ serial_lines standard_shape g writes (sections_from (i + 1) rest)) (sym none) ∙ same_lines in
     let writes_are : writes ≡ serial_writes 0 (transactions_of script) = ap (λ (rest : List (List Txn)). serial_writes writes (sections_from (i + 1) rest)) (sym none) ∙ same_writes in
-    let run = whole_run script plain in
-    rw (lines_are, writes_are) (serial_is_legal standard_shape script run.fits, run.words)
+    rw (lines_are, writes_are) (serial_is_legal standard_shape script (whole_run script plain))

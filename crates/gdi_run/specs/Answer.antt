@@ -1,5 +1,5 @@
 -- What the top call answers, and why.
-use Rattle.std.specs.Prelude.{◌≡◌, ◌⊎◌, ℕ, ◌<◌, ◌≤◌, false, Some, List, length, take, IfSome, Ok, Err}
+use Rattle.std.specs.Prelude.{◌≡◌, ◌⊎◌, ℕ, ◌<◌, ◌≤◌, false, true, Some, List, length, take, IfSome, Ok, Err}
 use Rattle.gdi_kinds.specs.declared.named_bytes.NamedBytes.{NamedBytes}
 use Rattle.gdi_kinds.specs.declared.txn.Txn.{Txn}
 use Rattle.gdi_io.specs.Faults.{Rose}
@@ -12,8 +12,9 @@ use Rattle.gdi_run.specs.declared.status.UsageKind.{UsageKind}
 use Rattle.gdi_run.specs.declared.status.Status.{Status}
 use Rattle.gdi_run.specs.declared.status.Status.TheVariants.{Done, Usage, ReadFault, TooLong, BadLoad, BadScript, BadOutput, LoadFull, WriteFault, Illegal, NoMemory}
 use Rattle.gdi_run.specs.Words.{name_in}
-use Rattle.gdi_run.specs.ScriptText.{Spells}
-use Rattle.gdi_run.specs.Output.{PrintsLegalRun}
+use Rattle.script_text.specs.Scripts.{Spells}
+use Rattle.gdi_run.specs.BareScripts.{is_run}
+use Rattle.gdi_run.specs.Output.{PrintsLegalRun, IsRefused}
 
 -- What a run of the script of this name may have written: a legal run's print, of which the sink took this part. The
 -- script is the one that its file spells, where the shelf tells its files; and what was taken is told where the sink
@@ -33,7 +34,7 @@ Cause shelf shelf' sink sink' name (ReadFault kind) = (kind ≡ file.Script) × 
 Cause shelf shelf' sink sink' name (TooLong kind) =
     (kind ≡ file.Script) × (longest_file < shelf'.given) × IfSome shelf.files (λ files. longest_file < length (bytes_of files name)) × (sink' ≡ sink)
 Cause shelf shelf' sink sink' name (BadScript line kind) =
-    (line ≡ 0) × (kind ≡ 0) × IfSome shelf.files (λ files. (script : List (List Txn)) → ¬ (Spells (bytes_of files name) script)) × (sink' ≡ sink)
+    ((text : List ℕ) × (IfSome shelf.files (λ files. text ≡ bytes_of files name) × IsRefused text line kind)) × (sink' ≡ sink)
 Cause shelf shelf' sink sink' name NoMemory = sink' ≡ sink
 Cause shelf shelf' sink sink' name (Usage kind) = ⊥
 Cause shelf shelf' sink sink' name (BadLoad kind row number) = ⊥
@@ -41,9 +42,9 @@ Cause shelf shelf' sink sink' name (BadOutput line) = ⊥
 Cause shelf shelf' sink sink' name (LoadFull kind rank) = ⊥
 Cause shelf shelf' sink sink' name (Illegal clause section txn) = ⊥
 
--- a script's file that is read: short enough, and of the form
+-- a script's file that is run: short enough, and it spells a script that is run so far
 abbrev pub IsReadable : List ℕ → Type 0
-IsReadable bytes = (length bytes ≤ longest_file) × (script : List (List Txn)) × Spells bytes script
+IsReadable bytes = (length bytes ≤ longest_file) × ((script : List (List Txn)) × (Spells bytes script × (is_run script ≡ true)))
 
 pub record IsAnswer (words : List (List ℕ)) (shelf shelf' : Told) (sink sink' : Taken) (status : Status) : Type 0 where
   -- where the words are no command, that is answered, and nothing is read or written
@@ -54,6 +55,6 @@ pub record IsAnswer (words : List (List ℕ)) (shelf shelf' : Told) (sink sink' 
   pub too_long : (name : List ℕ) → name_in words ≡ Ok name → longest_file < shelf'.given → status ≡ TooLong file.Script
   -- the files stay as they are told
   pub files : shelf'.files ≡ shelf.files
-  -- a script of the form, where neither shelf nor sink fails, is run, or memory isn't found
+  -- a script that is run so far, where neither shelf nor sink fails, is run, or memory isn't found
   pub complete : (name : List ℕ) (files : List NamedBytes) → name_in words ≡ Ok name → shelf.files ≡ Some files → IsReadable (bytes_of files name)
       → shelf'.halted ≡ false → ¬ (Rose sink.faults sink'.faults) → (status ≡ Done) ⊎ (status ≡ NoMemory)

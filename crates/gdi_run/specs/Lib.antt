@@ -1,8 +1,5 @@
 pub mod Answer
+pub mod BareScripts
 pub mod Output
-pub mod OutputText
-pub mod Reading
-pub mod ScriptText
 pub mod Serial
-pub mod Tokens
 pub mod Words

@@ -4,8 +4,7 @@ ghost use Rattle.gdi_kinds.specs.Calls.{is_writing};
 ghost use Rattle.rma_layout.specs.Shape.{standard_shape};
 ghost use Rattle.graph_model.specs.Bare.{IsBareCall};
 ghost use Rattle.graph_model.specs.LegalRun.{IsLegalRun};
-ghost use Rattle.gdi_run.specs.ScriptText.{IsBareScript};
-ghost use Rattle.gdi_run.specs.OutputText.{HasWords};
+ghost use Rattle.gdi_run.specs.BareScripts.{IsBareScript};
 ghost use Rattle.gdi_run.specs.Serial.{RunsOn, RunsOne, ends};
 
 use gdi_kinds::{Line, LineList, NoMemory, Outcome, Printed, ReplyList, Script, Section, Txn};
@@ -16,8 +15,7 @@ use std::alloc::Global;
 /// Runs the transactions of a script one after the other in the standard geometry, and says how each ended.
 pub(crate) fn run_script(alloc: Global, script: &Script) -> Result<Printed, NoMemory>
     requires { IsBareScript script.now }
-    ensures legal { IfOk result (λ run. IsLegalRun standard_shape [] script.now run) }
-    ensures words { IfOk result (λ run. AllByRecursion HasWords run.lines) }
+    ensures { IfOk result (λ run. IsLegalRun standard_shape [] script.now run) }
 {
     let mut run = SerialRun {
         graph: PlainGraph::new(alloc, Geometry::standard()),

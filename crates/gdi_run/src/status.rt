@@ -35,8 +35,7 @@ pub enum Status {
     TooLong(FileKind),
     /// The first wrong record of a load file, from 1; row 0 is the header or the whole file.
     BadLoad { file: FileKind, row: u64, kind: u32 },
-    /// The first wrong line of the script, from 1. Line 0 and kind 0 say that the script isn't of the form that is read
-    /// so far.
+    /// The first wrong line of the script, from 1. Line 0 and kind 0 say that the script isn't one that is run so far.
     BadScript { line: u64, kind: u32 },
     /// The first wrong line of an output, from 1.
     BadOutput { line: u64 },

@@ -118,17 +118,24 @@ fn faults_are_answered(rt: HostRuntime) -> Result<(), Fail> {
         Status::WriteFault,
         "1.1 w 0\n d",
     )?;
-    let bad = Status::BadScript { line: 0, kind: 0 };
-    run(
-        &rt,
-        alloc,
-        "section\ntxn\nvertex 01\nend\n",
-        &[],
-        1000,
-        bad,
-        "",
-    )?;
-    run(&rt, alloc, "section\ntxn\n", &[], 1000, bad, "")
+    Ok(())
+}
+
+// A text that is no script is refused where it is wrong, and a script that isn't run so far at line 0.
+#[test]
+fn scripts_are_refused(rt: HostRuntime) -> Result<(), Fail> {
+    for (script, line, kind) in [
+        ("section\ntxn\nvertex 01\nend\n", 3, 5),
+        ("section\ntxn\n", 3, 3),
+        ("section\nsection\n", 0, 0),
+        ("section\nall\nend\n", 0, 0),
+        ("section\ntxn\nabort\n", 0, 0),
+        ("section\ntxn\ntags 1\nend\n", 0, 0),
+    ] {
+        let bad = Status::BadScript { line, kind };
+        run(&rt, rt.alloc(), script, &[], 1000, bad, "")?;
+    }
+    Ok(())
 }
 
 #[test]

@@ -1,21 +1,21 @@
-ghost use Rattle.std.specs.Prelude.{◌≡◌, ◌⊎◌, List, IfOk, IsErrOf};
-ghost use Rattle.gdi_kinds.specs.declared.txn.Txn.{Txn};
-ghost use Rattle.gdi_run.specs.ScriptText.{Spells};
-ghost use Rattle.gdi_run.specs.Output.{PrintsLegalRun};
+ghost use Rattle.std.specs.Prelude.{MatchResult};
+ghost use Rattle.gdi_run.specs.Output.{PrintsLegalRun, TellsWhy};
 ghost use Rattle.gdi_run.specs.Answer.{IsAnswer};
 
-use crate::printer::print_outcomes;
-use crate::reader::{ScriptRefused, read_script};
+use crate::bare::is_run;
 use crate::runner::run_script;
 use crate::words::script_name;
 use crate::{FileKind, Status};
 use gdi_io::{ReadRefused, Shelf, Sink, read_all, write_all};
 use gdi_kinds::{Bytes, CommandWordList};
+use outcome_text::print_outcomes;
+use script_text::{ScriptRefused, read_script};
 use std::alloc::Global;
 
 /// Does what the words of a command line ask for: reads from the shelf, writes to the sink, and answers how it ended.
 ///
 /// So far the one command is `run SCRIPT`.
+#[tactic(auto, using(crate::proofs::Refused::never_refused))]
 pub fn gdi_main<F: Shelf, K: Sink>(
     alloc: Global,
     words: &CommandWordList,
@@ -36,7 +36,7 @@ pub fn gdi_main<F: Shelf, K: Sink>(
     };
     let output = match output_of(alloc, &text) {
         Ok(output) => output,
-        Err(ScriptRefused::Bad) => return Status::BadScript { line: 0, kind: 0 },
+        Err(ScriptRefused::Bad { line, kind }) => return Status::BadScript { line, kind },
         Err(ScriptRefused::NoMemory) => return Status::NoMemory,
     };
     match write_all(out, output.as_slice()) {
@@ -45,12 +45,14 @@ pub fn gdi_main<F: Shelf, K: Sink>(
     }
 }
 
-// What running a script prints.
+// What running a script prints. Of a script that isn't run so far the refusal is line 0 and kind 0.
 fn output_of(alloc: Global, text: &Bytes) -> Result<Bytes, ScriptRefused>
-    ensures ok { IfOk result (λ output. PrintsLegalRun text.now output) }
-    ensures bad { IsErrOf result ScriptRefused.Bad → (script : List (List Txn)) → ¬ (Spells text.now script) }
+    ensures { MatchResult result (PrintsLegalRun text.now) (TellsWhy text.now) }
 {
     let script = read_script(alloc, text.as_slice())?;
+    if !is_run(&script) {
+        return Err(ScriptRefused::Bad { line: 0, kind: 0 });
+    }
     let printed = run_script(alloc, &script)?;
     Ok(print_outcomes(alloc, &printed)?)
 }

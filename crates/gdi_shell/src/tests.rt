@@ -48,7 +48,7 @@ const RUNS: [(&[&str], u8, &str, &str); 8] = [
         &["run", "gdi_shell_bad.gdi"],
         6,
         "",
-        "gdi_shell: script line 0 fault 0\n",
+        "gdi_shell: script line 3 fault 5\n",
     ),
 ];
 

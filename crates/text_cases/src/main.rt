@@ -1,5 +1,7 @@
 //! Reads tables of texts, and prints how many of their lines hold: each text is read and printed, or refused, as its
 //! line tells. A line that doesn't hold is printed with its number.
+//!
+//! With a word it is the name of a script's file, which is read as a script and printed.
 #![tactic(auto)]
 
 mod scripts;
@@ -7,15 +9,29 @@ mod table;
 mod unescaped;
 
 use gdi_kinds::NoMemory;
+use scripts::printed_again;
 use std::alloc::Global;
+use std::io::Write;
 use std::rt::Files;
-use std::{fs, io};
+use std::{env, fs, io};
 use table::{Table, holds};
 
 fn main(rt: HostRuntime) -> io::Result<()> {
+    if let Some(name) = env::args(&rt)?.nth(1) {
+        return print_again(&rt, name.as_str());
+    }
     check(&rt, "scripts", Table::Scripts)?;
     check(&rt, "script_faults", Table::ScriptFaults)?;
     check(&rt, "script_limits", Table::ScriptLimits)
+}
+
+// Reads a file as a script and prints it.
+fn print_again<R: Files + Alloc<A = Global> + Print>(rt: &R, name: &str) -> io::Result<()> {
+    let text = fs::read(rt, name)?;
+    match printed_again(rt.alloc(), text.as_slice()) {
+        Ok(printed) => io::writer(rt).write_all(printed.as_slice()),
+        Err(refused) => println!(rt; "{refused:?}"),
+    }
 }
 
 // Prints how many lines of a table hold. Empty lines and those that begin with `#` are none.

@@ -1,4 +1,4 @@
-use gdi_kinds::NoMemory;
+use gdi_kinds::{Bytes, NoMemory};
 use script_text::{ScriptRefused, print_script, read_script};
 use std::alloc::Global;
 
@@ -16,4 +16,10 @@ pub(crate) fn is_refused(alloc: Global, text: &[u8], line: u64, kind: u32) -> bo
         Ok(_) => line == 0 && kind == 0,
         Err(refused) => refused == ScriptRefused::Bad { line, kind },
     }
+}
+
+/// The text that is printed of the script that a text spells.
+pub(crate) fn printed_again(alloc: Global, text: &[u8]) -> Result<Bytes, ScriptRefused> {
+    let script = read_script(alloc, text)?;
+    Ok(print_script(alloc, &script)?)
 }

@@ -3,7 +3,7 @@ use Rattle.std.specs.List.{AllByRecursion}
 use Rattle.rma_layout.specs.Shape.{standard_shape}
 use Rattle.graph_model.specs.Graph.{empty_graph}
 use Rattle.graph_model.specs.Placed.{sections_from, transactions_of}
-use Rattle.gdi_run.specs.ScriptText.{IsPlainTxn}
+use Rattle.gdi_run.specs.BareScripts.{IsPlainTxn}
 use Rattle.gdi_run.specs.Serial.{serial_lines, serial_writes}
 use Rattle.gdi_run.proofs.runner.run_script.Given as goal
 

@@ -1,9 +1,0 @@
-use Rattle.std.proofs.Common.{sym, ◌∙◌}
-use Rattle.gdi_run.proofs.FirstLine.{lines_at_end, lines_at_none}
-use Rattle.gdi_run.proofs.lines.first_line.Goals as goal
-
-pub returns-in-Some-clause-lines : goal.returns-in-Some-clause-lines
-returns-in-Some-clause-lines c = lines_at_end c.args.text.now c.in-Some.end (sym c.first_end.ensures ∙ c.in-Some.is)
-
-pub returns-in-None-clause-lines : goal.returns-in-None-clause-lines
-returns-in-None-clause-lines c = lines_at_none c.args.text.now c.requires (sym c.first_end.ensures ∙ c.in-None.is)
