@@ -1,3 +1,4 @@
 pub mod MovesKept
 pub mod TriesKept
 pub mod SparesTaken
+pub mod GivesKept

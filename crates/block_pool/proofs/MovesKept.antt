@@ -25,6 +25,16 @@ unmoved-trans one two three first next = next ∙ (λ k. record (first k) {
   looks = three.looks;
 })
 
+pub failed_sum : {N : Type 0} (home : ℕ) (one two three : View N) (m n : ℕ)
+    → Failed home m one two → Failed home n two three → Failed home (m + n) one three
+failed_sum home one two three m n a b = record {
+  gained = a.gained ++ b.gained;
+  misses = b.misses
+      ∙ (ap (λ l. l ++ b.gained) a.misses ∙ append_assoc one.misses a.gained b.gained);
+  on_home = All-append (λ (miss : Miss). miss.rank ≡ home) a.gained b.gained a.on_home b.on_home;
+  as_many = length-append a.gained b.gained ∙ (λ k. a.as_many k + b.as_many k);
+}
+
 module _ {N : Type 0} (home : ℕ) (one two three : View N) (first : Unmoved one two)
     (follows : Follows one two) where
   same_count : count_on home (places_of two.private) ≡ count_on home (places_of one.private)
@@ -37,16 +47,6 @@ module _ {N : Type 0} (home : ℕ) (one two three : View N) (first : Unmoved one
     looks = h.looks
         ∙ ap (λ n. h.earlier ++ record { rank = home; head = head; own_blocks = n } ∷ [])
         same_count;
-  }
-
-  pub failed_after : (m n : ℕ) → Failed home m one two → Failed home n two three
-      → Failed home (m + n) one three
-  failed_after m n a b = record {
-    gained = a.gained ++ b.gained;
-    misses = b.misses
-        ∙ (ap (λ l. l ++ b.gained) a.misses ∙ append_assoc one.misses a.gained b.gained);
-    on_home = All-append (λ (miss : Miss). miss.rank ≡ home) a.gained b.gained a.on_home b.on_home;
-    as_many = length-append a.gained b.gained ∙ (λ k. a.as_many k + b.as_many k);
   }
 
   pub failed_last_after : (loaded found : ℕ) → FailedLast home loaded found two three
@@ -83,7 +83,7 @@ module _ {N : Type 0} (home : ℕ) (one two three : View N) (first : Unmoved one
     h.1,
     h.2,
     h.3,
-    failed_after m n failed h.4,
+    failed_sum home one two three m n failed h.4,
     failed_last_after loaded seen h.5,
   )
   refuses_after m n failed (Worn head) h = (looked_after head h.0, h.1)
@@ -115,7 +115,7 @@ module _ {N : Type 0} (shape : Shape) (home : ℕ) (one two three : View N)
   busy_after m failed (Err (Empty head)) busy h = cc busy
   busy_after m failed (Err (PoolBusy loaded seen)) busy h = (
     unmoved-trans one two three first h.0,
-    failed_after home one two three first follows m 1 failed h.1.4,
+    failed_sum home one two three m 1 failed h.1.4,
   )
   busy_after m failed (Err (Worn head)) busy h = cc busy
 

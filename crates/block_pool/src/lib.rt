@@ -1,11 +1,13 @@
 //! Blocks for the objects of a window: taken from free lists, and given back to them.
 #![tactic(auto)]
 
+mod giving;
 mod refused;
 mod taking;
 #[cfg(test)]
 mod tests;
 
+pub use giving::give;
 pub use refused::PoolRefused;
 pub use taking::take;
 

@@ -20,7 +20,7 @@ use Rattle.window_rule.proofs.ViewsKept.{part_before, part_after, part_other}
 use Rattle.window_rule.proofs.PartitionKept.{apart}
 use Rattle.window_rule.proofs.PoolKept.{pool_step_keeps}
 
-places-linked : (block : Place) (next : ℕ) (own : List OwnBlock)
+pub places-linked : (block : Place) (next : ℕ) (own : List OwnBlock)
     → places_of (with_link block next own) ≡ places_of own
 places-linked block next [] = refl
 places-linked block next (one ∷ more) =
