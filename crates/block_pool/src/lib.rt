@@ -4,8 +4,6 @@
 mod giving;
 mod refused;
 mod taking;
-#[cfg(test)]
-mod tests;
 
 pub use giving::give;
 pub use refused::PoolRefused;

@@ -6,8 +6,6 @@ mod opening;
 mod plays;
 mod rank;
 mod rule;
-#[cfg(test)]
-mod tests;
 mod view;
 mod window;
 

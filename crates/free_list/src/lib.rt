@@ -3,8 +3,6 @@
 
 mod head;
 mod laws;
-#[cfg(test)]
-mod tests;
 
 pub use head::{first, head_of, tag};
 pub use laws::{found_again_is_unchanged, list_is_walked, pop_leaves_the_rest, push_comes_first};

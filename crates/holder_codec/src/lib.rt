@@ -16,8 +16,6 @@ mod laws;
 mod meta_holder;
 mod names;
 mod part_laws;
-#[cfg(test)]
-mod tests;
 mod texts;
 mod type_line;
 mod unread;

@@ -6,8 +6,6 @@ mod calls;
 mod laws;
 mod names;
 mod prop_type;
-#[cfg(test)]
-mod tests;
 
 pub use calls::add_label::add_label;
 pub use calls::add_type::add_type;

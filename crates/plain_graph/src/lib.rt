@@ -5,8 +5,6 @@ mod held_vertex;
 mod map_copy;
 mod plain_graph;
 mod refused;
-#[cfg(test)]
-mod tests;
 
 pub use plain_graph::PlainGraph;
 pub use refused::ModelRefused;

@@ -1,4 +1,4 @@
-//! Tests of what of a graph is found in a store of objects.
+//! Tests of what of a graph is found and changed in a store of objects.
 #![tactic(auto)]
 
 #[cfg(test)]
@@ -7,3 +7,7 @@ mod identifiers;
 mod keeping;
 #[cfg(test)]
 mod labels;
+#[cfg(test)]
+mod names;
+#[cfg(test)]
+mod vertices;

@@ -4,8 +4,6 @@
 mod calls;
 mod labels;
 mod opened;
-#[cfg(test)]
-mod tests;
 
 pub use calls::clear::clear;
 pub use calls::clear_label::clear_label;

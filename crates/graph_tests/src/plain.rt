@@ -2,8 +2,8 @@ ghost use Rattle.std.specs.Prelude.{IfOk};
 ghost use Rattle.std.specs.List.{AllByRecursion};
 ghost use Rattle.graph_model.specs.Bare.{IsBareCall};
 
-use crate::PlainGraph;
 use gdi_kinds::{Call, CallList, NoMemory, Reply, Txn};
+use plain_graph::PlainGraph;
 use rma_layout::Geometry;
 use std::alloc::Global;
 use std::test::Fail;

@@ -5,13 +5,13 @@ ghost use Rattle.graph_model.specs.Graph.{Graph};
 ghost use Rattle.holder_codec.specs.Represents.{Represents};
 ghost use Rattle.holder_codec.specs.Keeping.{keeps_by_steps};
 
-use crate::{
+use gdi_kinds::{NoMemory, Value};
+use holder_codec::{
     BucketHolder, EdgeForm, EdgeRecord, IndexHolder, KeepsGraph, MetaHolder, VertexHolder,
     buckets_alone, empty_store_represents_empty_graph, parts_look_at_their_own_objects,
     same_contents_represent_the_same, sizes_are_lengths, spellings_differ,
     store_represents_one_graph, words_are_counted,
 };
-use gdi_kinds::{NoMemory, Value};
 use object_words::{Law, Words};
 use rma_layout::DPtr;
 use std::alloc::Global;

@@ -1,4 +1,4 @@
-use crate::{LAST_TAG, first, head_of, tag};
+use free_list::{LAST_TAG, first, head_of, tag};
 
 #[test]
 fn heads_have_a_tag_and_a_block(rt: HostRuntime) {

@@ -1,6 +1,6 @@
 use Rattle.std.proofs.Common.{◌≡◌, ◌≤◌, ◌+◌}
 use Rattle.window_rule.specs.Pairs.{IsAtRest}
-use Rattle.fabric.proofs.tests.write_often.Given as goal
+use Rattle.window_tests.proofs.steps.write_often.Given as goal
 
 abbrev pub invariant-loop-k : goal.invariant-loop-k
 invariant-loop-k l =

@@ -1,36 +1,18 @@
 ghost use Rattle.std.specs.Prelude.{◌≡◌, OnOk};
 ghost use Rattle.rma_layout.specs.Shape.{Shape};
 ghost use Rattle.rma_layout.specs.Placement.{IsBlock};
-ghost use Rattle.object_words.specs.Contents.{Contents, Agrees, overlay};
-ghost use Rattle.graph_model.specs.Graph.{Graph};
 ghost use Rattle.object_store.specs.declared.phase.Phase.TheVariants.{Idle, Writing};
-ghost use Rattle.holder_codec.specs.Represents.{Represents};
-ghost use Rattle.holder_codec.specs.Keeping.{keeps_by_steps};
 ghost use Rattle.held_objects.specs.Changes.{any};
 ghost use Rattle.vertex_ops.specs.Vertices.{KnowsVertex};
 
-use crate::{clear, clear_label, keep, load, make, set_label};
+use crate::keeping::Keeping;
 use gdi_kinds::Reply;
-use holder_codec::KeepsGraph;
 use object_store::{PlainStore, Store};
-use object_words::{Law, Words};
+use object_words::Words;
 use rma_layout::{DPtr, Geometry};
 use std::alloc::Global;
 use std::test::Fail;
-
-/// The least that a law asks for that keeps a graph: what was a graph is one with the writes.
-struct Keeping;
-
-impl Law for Keeping {
-    type Note = ();
-
-    ghost fits = { λ shape entry. (store : Contents) (g : Graph) → Represents shape store g → Agrees entry.reads store →
-        (h : Graph) × Represents shape (overlay store entry.writes) h };
-}
-
-impl KeepsGraph for Keeping {
-    ghost keeps_graph = { keeps_by_steps Self.fits (λ shape entry store g range fits is agrees. fits store g is agrees) };
-}
+use vertex_ops::{clear, clear_label, keep, load, make, set_label};
 
 /// The replies to a label that is set twice and cleared twice.
 #[derive(Debug, Drop)]

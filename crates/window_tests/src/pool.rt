@@ -1,4 +1,4 @@
-use crate::{PoolRefused, give, take};
+use block_pool::{PoolRefused, give, take};
 use fabric::Window;
 use object_words::Law;
 use rma_layout::{DPtr, Geometry};

@@ -2,8 +2,8 @@ ghost use Rattle.std.specs.Prelude.{◌≡◌, ◌≤◌, ◌<◌, ◌^◌};
 ghost use Rattle.rma_layout.specs.Placement.{IsBlock, IsReserved};
 ghost use Rattle.window_rule.specs.Pairs.{IsAtRest};
 
-use crate::examples::{read_pair, write_pair};
-use crate::{Rank, Window};
+use fabric::examples::{read_pair, write_pair};
+use fabric::{Rank, Window};
 use object_words::{Carries, Law};
 use rma_layout::{DPtr, Geometry, Word};
 use std::alloc::Global;

@@ -1,0 +1,7 @@
+//! Tests of the plain graph, and of what of a graph is spelled as words.
+#![tactic(auto)]
+
+#[cfg(test)]
+mod holders;
+#[cfg(test)]
+mod plain;
