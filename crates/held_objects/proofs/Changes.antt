@@ -124,9 +124,13 @@ module _ {N X H : Type 0} {IsHolder : H → Type 0} {words_of : H → List ℕ} 
   pub read_part : {passes : X → Bool} → Knows (Holds Part passes) old
       → (x : X) × Fits x × (held ≡ holder_for x) × (passes x ≡ true) × (length (words_of held) ≤ most_words)
   read_part knows =
-      let is = knows.always (committed mid) (before read.looks.stays (committed mid) read.stands) in
-      (is.part, is.has.fits, is_part (committed mid) is.part read.stands.agrees is.has, is.passed,
-      subst (λ (ws : List ℕ). length ws ≤ most_words) (read.words (committed mid) read.stands.agrees) is.has.within)
+      let is = knows.always (committed mid) (before read.looks.stays (committed mid) read.stands) in (
+        is.part,
+        is.has.fits,
+        is_part (committed mid) is.part read.stands.agrees is.has,
+        is.passed,
+        subst (λ (ws : List ℕ). length ws ≤ most_words) (read.words (committed mid) read.stands.agrees) is.has.within,
+      )
 
   -- what is so of every part that what was read is of, is known
   pub read_such : (passes : X → Bool) → Knows (Holds Part any) old → ((x : X) → Fits x → held ≡ holder_for x → passes x ≡ true) → Knows (Holds Part passes) mid
@@ -204,20 +208,20 @@ module _ {N X H : Type 0} {IsHolder : H → Type 0} {words_of : H → List ℕ} 
     pub changes : {reply : Reply} → Knows (Holds Part any) old → SettlesChange words_of object mid new made reply → Changes Part (λ x. length (words_of (holder_for x))) change old new reply
     changes {reply} known did = elim (left_or_wrote words_of object mid new reply made did) [
       | inl left ↦ record {
-          answer = λ store x agrees has. answered store x (subst (λ (s : StoreState N). Agrees s.reads store) left.0 agrees) has;
-          changed = λ done store x agrees has.
-              not_done holder_for reply (Part (overlay store new.writes)) (change x) done (subst (IfMade (λ _. reply ≢ Done)) (pure x has.fits (is_part store x (subst (λ (s : StoreState N). Agrees s.reads store) left.0 agrees) has)).0 left.1);
-          unchanged = λ _. looks_on left.0;
-          known = still (looks_on left.0) known;
-          kept = λ passes _. still (looks_on left.0);
-        }
+        answer = λ store x agrees has. answered store x (subst (λ (s : StoreState N). Agrees s.reads store) left.0 agrees) has;
+        changed = λ done store x agrees has.
+            not_done holder_for reply (Part (overlay store new.writes)) (change x) done (subst (IfMade (λ _. reply ≢ Done)) (pure x has.fits (is_part store x (subst (λ (s : StoreState N). Agrees s.reads store) left.0 agrees) has)).0 left.1);
+        unchanged = λ _. looks_on left.0;
+        known = still (looks_on left.0) known;
+        kept = λ passes _. still (looks_on left.0);
+      }
       | inr wrote ↦ record {
-          answer = λ store x agrees has. answered store x (agreed wrote.0 wrote.1 wrote.2 wrote.3 store agrees) has;
-          changed = λ _ store x agrees has. part_after wrote.0 wrote.1 wrote.2 wrote.3 store x (agreed wrote.0 wrote.1 wrote.2 wrote.3 store agrees) has;
-          unchanged = λ other. absurd (other (replied words_of object mid new reply made did ∙ (ap (reply_to (λ h. length (words_of h))) wrote.1 ∙ ap (λ b. cond b TooLarge Done) wrote.2)));
-          known = kept_after wrote.0 wrote.1 wrote.2 wrote.3 any (λ x _. always_any (change x)) known;
-          kept = kept_after wrote.0 wrote.1 wrote.2 wrote.3;
-        }
+        answer = λ store x agrees has. answered store x (agreed wrote.0 wrote.1 wrote.2 wrote.3 store agrees) has;
+        changed = λ _ store x agrees has. part_after wrote.0 wrote.1 wrote.2 wrote.3 store x (agreed wrote.0 wrote.1 wrote.2 wrote.3 store agrees) has;
+        unchanged = λ other. absurd (other (replied words_of object mid new reply made did ∙ (ap (reply_to (λ h. length (words_of h))) wrote.1 ∙ ap (λ b. cond b TooLarge Done) wrote.2)));
+        known = kept_after wrote.0 wrote.1 wrote.2 wrote.3 any (λ x _. always_any (change x)) known;
+        kept = kept_after wrote.0 wrote.1 wrote.2 wrote.3;
+      }
     ]
       where
         answered : (store : Contents) (x : X) → Agrees mid.reads store → Part (overlay store old.writes) x → reply ≡ reply_to (λ x. length (words_of (holder_for x))) (change x)

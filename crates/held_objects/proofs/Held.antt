@@ -37,7 +37,6 @@ module _ {N : Type 0} {old new : StoreState N} {object : Place} {words : List �
     words = λ contents agrees. found_words old new object words ordered did contents agrees ∙ spelled;
     there = own_or_read (words_at old.writes object) refl;
   }
-
     where
       own_or_read : (own : Option (List ℕ)) → words_at old.writes object ≡ own → IsSome (words_at new.writes object) ⊎ (content_of new.reads object ≡ words_of held)
       own_or_read (Some ws) e = inl (subst IsSome (sym (ap (λ (w : Contents). words_at w object) did.writes ∙ e)) refl)

@@ -12,4 +12,3 @@ pub use laws::{contents_after_one_more, overlay_puts_over};
 
 /// Words of 64 bits, as an object has them.
 pub type Words = ListOf<u64>;
-
