@@ -2,3 +2,4 @@ pub mod MovesKept
 pub mod TriesKept
 pub mod SparesTaken
 pub mod GivesKept
+pub mod Walks

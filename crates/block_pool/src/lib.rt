@@ -1,10 +1,12 @@
 //! Blocks for the objects of a window: taken from free lists, and given back to them.
 #![tactic(auto)]
 
+mod counting;
 mod giving;
 mod refused;
 mod taking;
 
+pub use counting::free_count;
 pub use giving::give;
 pub use refused::PoolRefused;
 pub use taking::take;
