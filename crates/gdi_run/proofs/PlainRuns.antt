@@ -34,6 +34,10 @@ pub are_bare : (cs : List Call) → AllByRecursion MayHold cs → AllByRecursion
 are_bare [] h = tt
 are_bare (c ∷ cs) h = (is_bare c h.0, are_bare cs h.1)
 
+pub txns_are_bare : (txns : List Txn) → AllByRecursion IsPlainTxn txns → AllByRecursion (λ txn. AllByRecursion IsBareCall txn.calls) txns
+txns_are_bare [] h = tt
+txns_are_bare (t ∷ ts) h = (are_bare t.calls h.0.calls, txns_are_bare ts h.1)
+
 -- what they answer is one word
 is_word : (ids : List ℕ) (c : Call) → MayHold c → IsOneWord (reply_by_ids standard_shape ids c)
 is_word ids (Vertex id) h =
