@@ -1,114 +1,148 @@
 ghost use Rattle.std.specs.Prelude.{IfOk};
 ghost use Rattle.std.specs.List.{AllByRecursion};
-ghost use Rattle.graph_model.specs.Bare.{IsBareCall};
+ghost use Rattle.plain_graph.specs.Plain.{Stands};
 
-use gdi_kinds::{Call, CallList, NoMemory, Reply, Txn};
+use gdi_kinds::{Call, CallList, Kind, Name, NoMemory, Reply, Txn, Value};
 use plain_graph::PlainGraph;
 use rma_layout::Geometry;
 use std::alloc::Global;
 use std::test::Fail;
 
-#[test]
-fn answers_calls(rt: HostRuntime) -> Result<(), Fail> {
-    let alloc = rt.alloc();
-    let mut graph = PlainGraph::new(alloc, Geometry::standard());
-    assert!(rt; matches!(graph.apply(&Call::Has { id: 7 })?, Reply::No));
-    assert!(rt; matches!(graph.apply(&Call::Vertex { id: 7 })?, Reply::Done));
-    assert!(rt; matches!(graph.apply(&Call::Vertex { id: 7 })?, Reply::Exists));
-    assert!(rt; matches!(graph.apply(&Call::Has { id: 7 })?, Reply::Yes));
-    assert!(rt; matches!(graph.apply(&Call::Has { id: 8 })?, Reply::No));
-    Ok(())
+// Does a call, of whose answer a test's proof needs to know nothing.
+fn ask(graph: &mut PlainGraph, call: &Call) -> Result<Reply, Fail>
+    requires { Stands call.now }
+{
+    Ok(graph.apply(call)?)
+}
+
+// Whether a call is done.
+fn done(graph: &mut PlainGraph, call: &Call) -> Result<bool, Fail>
+    requires { Stands call.now }
+{
+    Ok(matches!(ask(graph, call)?, Reply::Done))
+}
+
+fn has(graph: &mut PlainGraph, id: u64) -> Result<bool, Fail> {
+    Ok(matches!(ask(graph, &Call::Has { id })?, Reply::Yes))
+}
+
+// How many values a property of vertex 7 has.
+fn value_count(graph: &mut PlainGraph, prop: Name) -> Result<usize, Fail> {
+    match ask(graph, &Call::Get { id: 7, prop })? {
+        Reply::Values(values) => Ok(values.len()),
+        Reply::Value(_) => Ok(1),
+        _ => Ok(0),
+    }
 }
 
 #[test]
-fn many_vertices(rt: HostRuntime) -> Result<(), Fail> {
+fn vertices_come_and_go(rt: HostRuntime) -> Result<(), Fail> {
     let mut graph = PlainGraph::new(rt.alloc(), Geometry::standard());
     for id in 0..500u64 {
-        assert!(rt; matches!(graph.apply(&Call::Vertex { id })?, Reply::Done));
+        assert!(rt; done(&mut graph, &Call::Vertex { id })?);
+        assert!(rt; !done(&mut graph, &Call::Vertex { id })?);
     }
     // Each 256th has the same bucket.
     for n in 2..500u64 {
-        assert!(rt; matches!(graph.apply(&Call::Vertex { id: 256 * n })?, Reply::Done));
+        assert!(rt; done(&mut graph, &Call::Vertex { id: 256 * n })?);
     }
     for id in 0..500u64 {
-        assert!(rt; matches!(graph.apply(&Call::Has { id })?, Reply::Yes));
-        assert!(rt; matches!(graph.apply(&Call::DropVertex { id })?, Reply::Done));
+        assert!(rt; has(&mut graph, id)?);
+        assert!(rt; done(&mut graph, &Call::DropVertex { id })?);
+        assert!(rt; !done(&mut graph, &Call::DropVertex { id })?);
+        assert!(rt; !has(&mut graph, id)?);
     }
-    assert!(rt; matches!(graph.apply(&Call::Has { id: 499 })?, Reply::No));
     Ok(())
 }
 
 #[test]
-fn a_dropped_vertex_may_be_made_again(rt: HostRuntime) -> Result<(), Fail> {
-    let alloc = rt.alloc();
-    let mut graph = PlainGraph::new(alloc, Geometry::standard());
-    assert!(rt; matches!(graph.apply(&Call::Vertex { id: 7 })?, Reply::Done));
-    assert!(rt; matches!(graph.apply(&Call::Vertex { id: 263 })?, Reply::Done));
-    assert!(rt; matches!(graph.apply(&Call::DropVertex { id: 7 })?, Reply::Done));
-    assert!(rt;
-        matches!(
-            graph.apply(&Call::DropVertex { id: 7 })?,
-            Reply::NoVertex(7)
-        )
-    );
-    assert!(rt; matches!(graph.apply(&Call::Has { id: 7 })?, Reply::No));
-    assert!(rt; matches!(graph.apply(&Call::Has { id: 263 })?, Reply::Yes));
-    assert!(rt; matches!(graph.apply(&Call::Vertex { id: 7 })?, Reply::Done));
-    assert!(rt; matches!(graph.apply(&Call::Has { id: 7 })?, Reply::Yes));
+fn properties_are_set_and_added(rt: HostRuntime) -> Result<(), Fail> {
+    let mut graph = PlainGraph::new(rt.alloc(), Geometry::standard());
+    let prop = Name::of(b"years").ok_or(NoMemory)?;
+    let kind = Kind::Int;
+    assert!(rt; done(&mut graph, &Call::Vertex { id: 7 })?);
+    for many in [true, false] {
+        let made = done(
+            &mut graph,
+            &Call::NewType {
+                name: prop,
+                kind,
+                many,
+            },
+        )?;
+        assert!(rt; made == many);
+    }
+    for n in 0..10i64 {
+        let value = Value::Int(n);
+        assert!(rt; done(&mut graph, &Call::Add { id: 7, prop, value })?);
+    }
+    assert!(rt; value_count(&mut graph, prop)? == 10);
+    let value = Value::Int(10);
+    assert!(rt; done(&mut graph, &Call::Set { id: 7, prop, value })?);
+    assert!(rt; value_count(&mut graph, prop)? == 1);
+    for there in [true, false] {
+        assert!(rt; done(&mut graph, &Call::Unset { id: 7, prop })? == there);
+    }
     Ok(())
+}
+
+#[test]
+fn labels_are_put_on_and_taken_off(rt: HostRuntime) -> Result<(), Fail> {
+    let mut graph = PlainGraph::new(rt.alloc(), Geometry::standard());
+    let label = Name::of(b"Person").ok_or(NoMemory)?;
+    for fresh in [true, false] {
+        assert!(rt; done(&mut graph, &Call::NewLabel { name: label })? == fresh);
+    }
+    for id in 0..20u64 {
+        assert!(rt; done(&mut graph, &Call::Vertex { id })?);
+        for lacks in [true, false] {
+            assert!(rt; done(&mut graph, &Call::Tag { id, label })? == lacks);
+        }
+    }
+    for id in 0..10u64 {
+        for has in [true, false] {
+            assert!(rt; done(&mut graph, &Call::Untag { id, label })? == has);
+        }
+    }
+    for id in 0..20u64 {
+        assert!(rt; done(&mut graph, &Call::DropVertex { id })?);
+    }
+    Ok(())
+}
+
+// A transaction that makes vertex 3, or drops it.
+fn making(alloc: Global, makes: bool, aborts: bool) -> Result<Txn, NoMemory>
+    ensures { IfOk result (λ txn. AllByRecursion Stands txn.calls) }
+{
+    let mut calls = CallList::new(alloc);
+    if makes {
+        calls.push(Call::Vertex { id: 3 })?;
+    } else {
+        calls.push(Call::DropVertex { id: 3 })?;
+    }
+    Ok(Txn {
+        whole: false,
+        calls,
+        aborts,
+    })
+}
+
+// Runs it, and says how many replies there are.
+fn run(graph: &mut PlainGraph, txn: &Txn) -> Result<usize, Fail>
+    requires { AllByRecursion Stands txn.now.calls }
+{
+    Ok(graph.run(txn)?.len())
 }
 
 #[test]
 fn an_abort_leaves_the_graph(rt: HostRuntime) -> Result<(), Fail> {
     let alloc = rt.alloc();
     let mut graph = PlainGraph::new(alloc, Geometry::standard());
-    let aborted = graph.run(&vertex_twice(alloc, true)?)?;
-    let kept = graph.run(&vertex_twice(alloc, false)?)?;
-    assert!(rt; matches!(aborted.as_slice(), [Reply::Done, Reply::Exists, Reply::Yes]));
-    assert!(rt; matches!(kept.as_slice(), [Reply::Done, Reply::Exists, Reply::Yes]));
-    assert!(rt; matches!(graph.apply(&Call::Has { id: 3 })?, Reply::Yes));
+    for makes in [true, false] {
+        assert!(rt; run(&mut graph, &making(alloc, makes, true)?)? == 1);
+        assert!(rt; has(&mut graph, 3)? != makes);
+        assert!(rt; run(&mut graph, &making(alloc, makes, false)?)? == 1);
+        assert!(rt; has(&mut graph, 3)? == makes);
+    }
     Ok(())
-}
-
-#[test]
-fn an_aborted_drop_leaves_the_vertex(rt: HostRuntime) -> Result<(), Fail> {
-    let alloc = rt.alloc();
-    let mut graph = PlainGraph::new(alloc, Geometry::standard());
-    let _made = graph.run(&vertex_twice(alloc, false)?)?;
-    let aborted = graph.run(&dropped(alloc, true)?)?;
-    assert!(rt; matches!(aborted.as_slice(), [Reply::Done, Reply::No]));
-    assert!(rt; matches!(graph.apply(&Call::Has { id: 3 })?, Reply::Yes));
-    let kept = graph.run(&dropped(alloc, false)?)?;
-    assert!(rt; matches!(kept.as_slice(), [Reply::Done, Reply::No]));
-    assert!(rt; matches!(graph.apply(&Call::Has { id: 3 })?, Reply::No));
-    Ok(())
-}
-
-// A transaction that makes a vertex, tries it again and looks for it.
-fn vertex_twice(alloc: Global, aborts: bool) -> Result<Txn, NoMemory>
-    ensures { IfOk result (λ txn. AllByRecursion IsBareCall txn.calls) }
-{
-    let mut calls = CallList::new(alloc);
-    calls.push(Call::Vertex { id: 3 })?;
-    calls.push(Call::Vertex { id: 3 })?;
-    calls.push(Call::Has { id: 3 })?;
-    Ok(Txn {
-        whole: false,
-        calls,
-        aborts,
-    })
-}
-
-// A transaction that drops that vertex and looks for it.
-fn dropped(alloc: Global, aborts: bool) -> Result<Txn, NoMemory>
-    ensures { IfOk result (λ txn. AllByRecursion IsBareCall txn.calls) }
-{
-    let mut calls = CallList::new(alloc);
-    calls.push(Call::DropVertex { id: 3 })?;
-    calls.push(Call::Has { id: 3 })?;
-    Ok(Txn {
-        whole: false,
-        calls,
-        aborts,
-    })
 }

@@ -1,2 +1,10 @@
 pub mod OrderedMaps
-pub mod BucketCounts
+pub mod Weights
+pub mod Props
+pub mod Tallies
+pub mod Buckets
+pub mod CallAnswers
+pub mod Writes
+pub mod Places
+pub mod Slots
+pub mod Standing

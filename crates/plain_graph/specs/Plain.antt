@@ -1,23 +1,76 @@
 -- What a plain graph is: a graph, and the shape by whose placement its calls are refused for want of room in an object.
-use Rattle.std.specs.Prelude.{◌≡◌, ℕ, count_by, ◌==◌}
-use Rattle.std.specs.Option.{unwrap_or}
+use Rattle.std.specs.Prelude.{◌≡◌, ℕ, ◌+◌, ◌≤◌, Bool, false, List, [], length, sum_by, count_by, ◌==◌}
+use Rattle.gdi_kinds.specs.declared.call.Call.{Call}
+use Rattle.gdi_kinds.specs.declared.call.Call.TheVariants.{NewLabel, NewType, Vertex as MakeVertex, Has, DropVertex, Tag, Untag, Set, Add, Get, Unset}
+use Rattle.gdi_kinds.specs.declared.reply.Reply.{Reply}
 use Rattle.rma_layout.specs.Shape.{Shape}
-use Rattle.rma_layout.specs.Placement.{raw_of, bucket_of}
-use Rattle.graph_model.specs.Maps.{Map, at}
-use Rattle.graph_model.specs.Graph.{Graph, Vertex}
+use Rattle.rma_layout.specs.Placement.{raw_of, bucket_of, slot_of}
+use Rattle.graph_model.specs.Maps.{Map}
+use Rattle.graph_model.specs.Graph.{Name, PropType, Graph, Vertex}
+use Rattle.graph_model.specs.Sizes.{most_words, words_of_bytes}
+use Rattle.graph_model.specs.Calls.{answer_to}
+use Rattle.plain_graph.specs.Counts.{count_of}
 
 pub record Plain : Type 0 where
   pub shape : Shape
   pub graph : Graph
 
+-- a call on one plain graph leaves another, and has this reply
+abbrev pub Answers : Plain → Call → Plain → Reply → Type 0
+Answers before call after reply = answer_to before.shape before.graph call ≡ (record { graph = after.graph; reply = reply })
+
+-- so far a plain graph holds no edges
+abbrev pub graph_of : List Name → List PropType → Map ℕ Vertex → Graph
+graph_of labels types vertices = record { labels = labels; types = types; vertices = vertices; edges = [] }
+
 -- how many vertices have this pointer to their bucket
 abbrev pub led_to_by : Shape → Map ℕ Vertex → ℕ → ℕ
 led_to_by shape vertices raw = count_by (λ entry. raw_of (bucket_of shape entry.0) == raw) vertices
 
--- a count, which may be absent where it is 0
-abbrev pub count_of : Map ℕ ℕ → ℕ → ℕ
-count_of counts key = unwrap_or (at counts key) 0
-
 -- the counts are those of the buckets, by their pointers
 abbrev pub CountsBuckets : Shape → Map ℕ Vertex → Map ℕ ℕ → Type 0
 CountsBuckets shape vertices counts = (raw : ℕ) → count_of counts raw ≡ led_to_by shape vertices raw
+
+-- how many labels of a vertex the object of the index with this pointer keeps, and how many of all vertices
+abbrev pub labels_kept : Shape → ℕ → List ℕ → ℕ → ℕ
+labels_kept shape id labels raw = count_by (λ label. raw_of (slot_of shape label id) == raw) labels
+
+abbrev pub kept_by : Shape → Map ℕ Vertex → ℕ → ℕ
+kept_by shape vertices raw = sum_by (λ entry. labels_kept shape entry.0 entry.1.labels raw) vertices
+
+-- the counts are those of the objects of the index, by their pointers
+abbrev pub CountsSlots : Shape → Map ℕ Vertex → Map ℕ ℕ → Type 0
+CountsSlots shape vertices counts = (raw : ℕ) → count_of counts raw ≡ kept_by shape vertices raw
+
+-- the words of each label and of each type in the object of the names
+abbrev pub words_of_labels : List Name → ℕ
+words_of_labels labels = sum_by (λ name. 1 + words_of_bytes (length name)) labels
+
+abbrev pub words_of_types : List PropType → ℕ
+words_of_types types = sum_by (λ type. 2 + words_of_bytes (length type.name)) types
+
+-- these words are counted, and an object may have them
+pub record CountsNames (labels : List Name) (types : List PropType) (words : ℕ) : Type 0 where
+  pub sum : words ≡ words_of_labels labels + words_of_types types
+  pub within : words ≤ most_words
+
+-- what is kept beside the graph fits it; where a change has begun and not ended, the counts of buckets and index need not
+pub record IsCounted (shape : Shape) (labels : List Name) (types : List PropType) (vertices : Map ℕ Vertex) (words : ℕ) (torn : Bool) (bucket_counts slot_counts : Map ℕ ℕ) : Type 0 where
+  pub names : CountsNames labels types words
+  pub buckets : torn ≡ false → CountsBuckets shape vertices bucket_counts
+  pub slots : torn ≡ false → CountsSlots shape vertices slot_counts
+
+-- the calls that stand
+abbrev pub Stands : Call → Type 0
+Stands (NewLabel name) = Unit {0}
+Stands (NewType name kind many) = Unit {0}
+Stands (MakeVertex id) = Unit {0}
+Stands (Has id) = Unit {0}
+Stands (DropVertex id) = Unit {0}
+Stands (Tag id label) = Unit {0}
+Stands (Untag id label) = Unit {0}
+Stands (Set id prop value) = Unit {0}
+Stands (Add id prop value) = Unit {0}
+Stands (Get id prop) = Unit {0}
+Stands (Unset id prop) = Unit {0}
+Stands call = ⊥

@@ -1,10 +1,17 @@
-ghost use Rattle.std.specs.Prelude.{◌≡◌};
+ghost use Rattle.std.specs.Prelude.{◌≡◌, ℕ, Bool, false, true, ◌+◌, ◌≤◌, ◌<◌, ◌^◌, [], ◌∷◌, ◌++◌, length, count_by, OnOk, if◌then◌else◌};
 ghost use Rattle.graph_model.specs.Graph.{new_vertex};
+ghost use Rattle.graph_model.specs.Maps.{with_at, without, has, add, take_out};
+ghost use Rattle.plain_graph.specs.Counts.{count_of};
+ghost use Rattle.plain_graph.specs.Plain.{labels_kept};
+ghost use Rattle.graph_model.specs.Lookups.{values_at};
+ghost use Rattle.graph_model.specs.Sizes.{words_of_props};
 
-use crate::map_copy::copy_of_map;
-use gdi_kinds::{Duplicate, NoMemory, ValueList};
+use crate::held_props::HeldProps;
+use crate::tally::Tally;
+use gdi_kinds::{Duplicate, NoMemory, Value};
+use rma_layout::Geometry;
 use std::alloc::Global;
-use std::collections::{BTreeMap, BTreeSet};
+use std::collections::BTreeSet;
 use std::marker::Model;
 
 /// A vertex as the plain graph holds it.
@@ -14,8 +21,7 @@ pub(crate) struct HeldVertex {
     next: u64,
     // The numbers of its labels.
     labels: BTreeSet<u32, Global>,
-    // Its values by the numbers of their types.
-    props: BTreeMap<u32, ValueList, Global>,
+    props: HeldProps,
 }
 
 impl Model for HeldVertex {
@@ -23,7 +29,7 @@ impl Model for HeldVertex {
 
     ghost Value = { Vertex };
 
-    ghost view = { λ held. record { next = held.next; labels = held.labels.keys; props = held.props.entries } };
+    ghost view = { λ held. record { next = held.next; labels = held.labels.keys; props = held.props } };
 }
 
 impl HeldVertex {
@@ -34,8 +40,95 @@ impl HeldVertex {
         HeldVertex {
             next: 0,
             labels: BTreeSet::new(alloc),
-            props: BTreeMap::new(alloc),
+            props: HeldProps::new(alloc),
         }
+    }
+
+    /// How many labels it has.
+    pub(crate) fn label_count(&self) -> u64
+        ensures value { result ≡ length self.now.labels }
+        ensures small { result < 2 ^ 63 }
+    {
+        self.labels.len() as u64
+    }
+
+    /// How many labels it would have with this one.
+    pub(crate) fn label_count_with(&self, label: u32) -> u64
+        requires { has self.now.labels label ≡ false }
+        ensures value { result ≡ length (add label self.now.labels) }
+        ensures small { result ≤ 2 ^ 63 }
+    {
+        self.labels.len() as u64 + 1
+    }
+
+    pub(crate) fn has_label(&self, label: u32) -> bool
+        ensures { result ≡ has self.now.labels label }
+    {
+        self.labels.contains(&label)
+    }
+
+    pub(crate) fn add_label(&mut self, label: u32) -> Result<(), NoMemory>
+        ensures { OnOk result (self.new ≡ (record self.old { labels = add label self.old.labels })) }
+    {
+        self.labels.insert(label)?;
+        Ok(())
+    }
+
+    pub(crate) fn remove_label(&mut self, label: u32)
+        ensures changed { self.new ≡ (record self.old { labels = take_out label self.old.labels }) }
+        ensures count { (p : ℕ → Bool) → has self.old.labels label ≡ true
+            → count_by p self.new.labels + (if p label then 1 else 0) ≡ count_by p self.old.labels }
+    {
+        self.labels.remove(&label);
+    }
+
+    /// Takes its labels out of the counts of the objects of the index.
+    pub(crate) fn uncount_labels(
+        &self,
+        geometry: &Geometry,
+        id: u64,
+        counts: &mut Tally,
+    ) -> Result<(), NoMemory>
+        requires { (q : ℕ) → labels_kept geometry.now id self.now.labels q ≤ count_of counts.old q }
+        ensures { OnOk result ((q : ℕ)
+            → count_of counts.new q + labels_kept geometry.now id self.now.labels q ≡ count_of counts.old q) }
+    {
+        for label in &self.labels {
+            counts.lower(geometry.slot(*label, id).raw())?;
+        }
+        Ok(())
+    }
+
+    /// Its properties.
+    pub(crate) fn props(&self) -> &HeldProps
+        ensures { result.now ≡ self.now.props }
+    {
+        &self.props
+    }
+    /// Gives a property this value alone.
+    pub(crate) fn set_value(&mut self, alloc: Global, ty: u32, value: Value) -> Result<(), NoMemory>
+        requires { words_of_props (with_at self.old.props ty (value ∷ [])) ≤ 1048576 }
+        ensures changed { OnOk result (self.new ≡ (record self.old { props = with_at self.old.props ty (value ∷ []) })) }
+        ensures labels { self.new.labels ≡ self.old.labels }
+    {
+        self.props.set(alloc, ty, value)
+    }
+
+    /// Puts a value behind those of a property.
+    pub(crate) fn add_value(&mut self, alloc: Global, ty: u32, value: Value) -> Result<(), NoMemory>
+        requires { words_of_props (with_at self.old.props ty (values_at self.old.props ty ++ value ∷ [])) ≤ 1048576 }
+        ensures changed { OnOk result (self.new
+            ≡ (record self.old { props = with_at self.old.props ty (values_at self.old.props ty ++ value ∷ []) })) }
+        ensures labels { self.new.labels ≡ self.old.labels }
+    {
+        self.props.add(alloc, ty, value)
+    }
+
+    /// Takes out a property.
+    pub(crate) fn remove_values(&mut self, ty: u32)
+        ensures { self.new ≡ (record self.old { props = without self.old.props ty }) }
+    {
+        self.props.remove(ty);
     }
 }
 
@@ -44,7 +137,7 @@ impl Duplicate for HeldVertex {
         Ok(HeldVertex {
             next: self.next,
             labels: self.labels.clone()?,
-            props: copy_of_map(alloc, &self.props)?,
+            props: self.props.copy(alloc)?,
         })
     }
 }

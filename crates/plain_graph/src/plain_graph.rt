@@ -1,24 +1,26 @@
 ghost use Rattle.std.specs.Prelude.{◌≡◌, IfOk, OnOk};
 ghost use Rattle.std.specs.List.{AllByRecursion};
-ghost use Rattle.gdi_kinds.specs.declared.call.Call.TheVariants as call;
-ghost use Rattle.rma_layout.specs.Placement.{bucket_of, raw_of};
 ghost use Rattle.graph_model.specs.Graph.{empty_graph};
-ghost use Rattle.graph_model.specs.Bare.{IsBareCall};
-ghost use Rattle.plain_graph.specs.Plain.{count_of};
 ghost use Rattle.graph_model.specs.Calls.{graph_after_call, reply_to};
 ghost use Rattle.graph_model.specs.Transactions.{graph_after_calls, graph_after_txn, replies_to, replies_to_calls};
+ghost use Rattle.plain_graph.specs.Plain.{Stands};
+
+mod looks;
+mod names;
+mod props;
+mod tags;
+mod vertices;
 
 use crate::ModelRefused;
+use crate::held_type::HeldType;
 use crate::held_vertex::HeldVertex;
 use crate::map_copy::copy_of_map;
-use gdi_kinds::{Call, NoMemory, Reply, ReplyList, Txn};
-use rma_layout::{Geometry, MOST_WORDS};
+use crate::tally::Tally;
+use gdi_kinds::{Call, Duplicate, ListOf, NameList, NoMemory, Reply, ReplyList, Txn};
+use rma_layout::Geometry;
 use std::alloc::Global;
 use std::collections::BTreeMap;
 use std::marker::Model;
-
-// A bucket that leads to so many vertices has as many words as an object may have.
-const MOST_IN_BUCKET: u64 = MOST_WORDS / 2;
 
 /// A graph in memory, worked on by one caller alone. Its geometry decides which calls would make an object too large. It
 /// keeps the allocator that `new` was given.
@@ -28,10 +30,18 @@ const MOST_IN_BUCKET: u64 = MOST_WORDS / 2;
 pub struct PlainGraph {
     alloc: Global,
     geometry: Geometry,
+    labels: NameList,
+    types: ListOf<HeldType>,
+    // The words that labels and types have in the object of the names.
+    name_words: u64,
     // By identifier.
     vertices: BTreeMap<u64, HeldVertex, Global>,
-    // How many vertices each bucket leads to, by the bucket's pointer. One that is absent leads to none.
-    bucket_counts: BTreeMap<u64, u64, Global>,
+    // Whether a change has begun and not ended, since no memory was found for it. The counts below may then be wrong.
+    torn: bool,
+    // How many vertices each bucket leads to, by the bucket's pointer.
+    bucket_counts: Tally,
+    // How many labels of vertices each object of the index keeps, by its pointer.
+    slot_counts: Tally,
 }
 
 impl Model for PlainGraph {
@@ -39,12 +49,11 @@ impl Model for PlainGraph {
 
     ghost Value = { Plain };
 
-    ghost use Rattle.graph_model.specs.Bare.{graph_of_vertices};
-    ghost use Rattle.plain_graph.specs.Plain.{CountsBuckets};
+    ghost use Rattle.plain_graph.specs.Plain.{graph_of, IsCounted};
 
-    ghost view = { λ plain. record { shape = plain.geometry; graph = graph_of_vertices plain.vertices.entries } };
+    ghost view = { λ plain. record { shape = plain.geometry; graph = graph_of plain.labels plain.types plain.vertices.entries } };
 
-    ghost invariant = { λ plain. CountsBuckets plain.geometry plain.vertices.entries plain.bucket_counts.entries };
+    ghost invariant = { λ plain. IsCounted plain.geometry plain.labels plain.types plain.vertices.entries plain.name_words plain.torn plain.bucket_counts plain.slot_counts };
 }
 
 impl PlainGraph {
@@ -56,29 +65,43 @@ impl PlainGraph {
         PlainGraph {
             alloc,
             geometry,
+            labels: NameList::new(alloc),
+            types: ListOf::new(alloc),
+            name_words: 0,
             vertices: BTreeMap::new(alloc),
-            bucket_counts: BTreeMap::new(alloc),
+            torn: false,
+            bucket_counts: Tally::new(alloc),
+            slot_counts: Tally::new(alloc),
         }
     }
 
-    /// Does a call and answers its reply. So far it takes `Vertex`, `Has` and `DropVertex` alone.
+    /// Does a call and answers its reply. So far it takes the calls that make labels and types, those that make, drop and
+    /// ask for vertices, and those that set, add, get and unset a property of a vertex.
     pub fn apply(&mut self, call: &Call) -> Result<Reply, ModelRefused>
-        requires { IsBareCall call.now }
+        requires { Stands call.now }
         ensures shape { self.new.shape ≡ self.old.shape }
         ensures reply { IfOk result (λ reply. reply ≡ reply_to self.old.shape self.old.graph call.now) }
         ensures graph { OnOk result (self.new.graph ≡ graph_after_call self.old.shape self.old.graph call.now) }
     {
         match call {
+            Call::NewLabel { name } => self.new_label(name),
+            Call::NewType { name, kind, many } => self.new_type(name, *kind, *many),
             Call::Vertex { id } => self.make_vertex(*id),
             Call::Has { id } => Ok(self.has_vertex(*id)),
-            Call::DropVertex { id } => Ok(self.drop_vertex(*id)),
+            Call::DropVertex { id } => self.drop_vertex(*id),
+            Call::Tag { id, label } => self.tag(*id, label),
+            Call::Untag { id, label } => self.untag(*id, label),
+            Call::Set { id, prop, value } => self.set_prop(*id, prop, value),
+            Call::Add { id, prop, value } => self.add_prop(*id, prop, value),
+            Call::Get { id, prop } => self.get_prop(*id, prop),
+            Call::Unset { id, prop } => Ok(self.unset_prop(*id, prop)),
             _ => unreachable!(),
         }
     }
 
     /// Does the calls of a transaction in order and answers their replies. One that aborts leaves the graph as it was.
     pub fn run(&mut self, txn: &Txn) -> Result<ReplyList, ModelRefused>
-        requires { AllByRecursion IsBareCall txn.now.calls }
+        requires { AllByRecursion Stands txn.now.calls }
         ensures shape { self.new.shape ≡ self.old.shape }
         ensures replies { IfOk result (λ replies. replies ≡ replies_to self.old.shape self.old.graph txn.now) }
         ensures graph { OnOk result (self.new.graph ≡ graph_after_txn self.old.shape self.old.graph txn.now) }
@@ -91,7 +114,7 @@ impl PlainGraph {
     }
 
     fn run_calls(&mut self, calls: &[Call]) -> Result<ReplyList, ModelRefused>
-        requires { AllByRecursion IsBareCall calls.now }
+        requires { AllByRecursion Stands calls.now }
         ensures shape { self.new.shape ≡ self.old.shape }
         ensures replies { IfOk result (λ replies. replies ≡ replies_to_calls self.old.shape self.old.graph calls.now) }
         ensures graph { OnOk result (self.new.graph ≡ graph_after_calls self.old.shape self.old.graph calls.now) }
@@ -110,69 +133,13 @@ impl PlainGraph {
         Ok(PlainGraph {
             alloc: self.alloc,
             geometry: self.geometry,
+            labels: self.labels.copy(self.alloc)?,
+            types: self.types.copy(self.alloc)?,
+            name_words: self.name_words,
             vertices: copy_of_map(self.alloc, &self.vertices)?,
-            bucket_counts: copy_of_map(self.alloc, &self.bucket_counts)?,
+            torn: self.torn,
+            bucket_counts: self.bucket_counts.copy(self.alloc)?,
+            slot_counts: self.slot_counts.copy(self.alloc)?,
         })
     }
-
-    fn has_vertex(&self, id: u64) -> Reply
-        ensures { result ≡ reply_to self.now.shape self.now.graph (call.Has id) }
-    {
-        match self.vertices.get(&id) {
-            Some(_) => Reply::Yes,
-            None => Reply::No,
-        }
-    }
-
-    fn make_vertex(&mut self, id: u64) -> Result<Reply, ModelRefused>
-        ensures shape { self.new.shape ≡ self.old.shape }
-        ensures reply { IfOk result (λ reply. reply ≡ reply_to self.old.shape self.old.graph (call.Vertex id)) }
-        ensures graph { OnOk result (self.new.graph ≡ graph_after_call self.old.shape self.old.graph (call.Vertex id)) }
-    {
-        if self.vertices.contains_key(&id) {
-            return Ok(Reply::Exists);
-        }
-        // In these ranges distinct buckets have distinct pointers.
-        self.geometry.keeps_ranges();
-        let bucket = bucket_pointer(&self.geometry, id);
-        let count = count_of(&self.bucket_counts, bucket);
-        if count >= MOST_IN_BUCKET {
-            return Ok(Reply::TooLarge);
-        }
-        // The count stands there before the vertex does, so that raising it takes no memory.
-        self.bucket_counts.insert(bucket, count)?;
-        self.vertices.insert(id, HeldVertex::new(self.alloc))?;
-        self.bucket_counts.insert(bucket, count + 1)?;
-        Ok(Reply::Done)
-    }
-
-    fn drop_vertex(&mut self, id: u64) -> Reply
-        ensures shape { self.new.shape ≡ self.old.shape }
-        ensures reply { result ≡ reply_to self.old.shape self.old.graph (call.DropVertex id) }
-        ensures graph { self.new.graph ≡ graph_after_call self.old.shape self.old.graph (call.DropVertex id) }
-    {
-        if self.vertices.remove(&id).is_none() {
-            return Reply::NoVertex(id);
-        }
-        let bucket = bucket_pointer(&self.geometry, id);
-        let count = count_of(&self.bucket_counts, bucket);
-        let Ok(_) = self.bucket_counts.insert(bucket, count - 1) else {
-            unreachable!()
-        };
-        Reply::Done
-    }
-}
-
-// The word of the pointer to the bucket that leads to a vertex.
-fn bucket_pointer(geometry: &Geometry, id: u64) -> u64
-    ensures { result ≡ raw_of (bucket_of geometry.now id) }
-{
-    geometry.bucket(id).raw()
-}
-
-// The count at a key, 0 where none stands.
-fn count_of(counts: &BTreeMap<u64, u64, Global>, key: u64) -> u64
-    ensures { result ≡ count_of counts.now.entries key }
-{
-    counts.get(&key).copied().unwrap_or(0)
 }

@@ -1,4 +1,4 @@
-use Rattle.std.proofs.Common.{[], sym, subst, ap, arith, length}
+use Rattle.std.proofs.Common.{drop-cons, [], sym, subst, ap, arith, length}
 use Rattle.std.proofs.lemmas.List.{get_or_default}
 use Rattle.rma_layout.specs.Shape.{standard_shape}
 use Rattle.graph_model.specs.LegalRun.{IsLegalRun}

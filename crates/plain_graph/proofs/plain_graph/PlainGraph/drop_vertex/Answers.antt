@@ -1,68 +1,52 @@
-use Rattle.std.proofs.Common.{◌≡◌, true, false, is_some, ap, sym, subst, ◌∙◌, arith}
-use Rattle.std.specs.Option.{unwrap_or}
+use Rattle.std.proofs.Common.{◌≡◌, ℕ, ◌+◌, ◌≤◌, is_some, cond, eqb, ap, sym, subst, ◌∙◌, arith}
+use Rattle.rma_layout.specs.Placement.{raw_of}
 use Rattle.gdi_kinds.specs.declared.call.Call.TheVariants.{DropVertex}
 use Rattle.gdi_kinds.specs.declared.reply.Reply.TheVariants.{Done, NoVertex}
-use Rattle.graph_model.specs.Maps.{is_there, without}
-use Rattle.graph_model.specs.Bare.{graph_of_vertices}
-use Rattle.plain_graph.specs.Plain.{Plain}
-use Rattle.graph_model.specs.Steps.{Answer}
-use Rattle.graph_model.specs.Calls.{answer_to}
+use Rattle.plain_graph.specs.Counts.{count_of}
+use Rattle.plain_graph.specs.Plain.{Plain, graph_of, kept_by}
 use Rattle.plain_graph.proofs.OrderedMaps.{lookup-at, removed}
-use Rattle.graph_model.proofs.VertexSteps.{answer_to-drop}
-use Rattle.plain_graph.proofs.BucketCounts.{counts_lowered, some_counted}
+use Rattle.plain_graph.proofs.Buckets.{buckets-lowered, some_counted}
+use Rattle.plain_graph.proofs.Slots.{kept-removed}
+use Rattle.plain_graph.proofs.CallAnswers.{Gives, drop-no_vertex, drop-done}
 use Rattle.plain_graph.proofs.plain_graph.PlainGraph.drop_vertex.Goals as goal
 
--- ---- an absent vertex
+pub returns-then-not-contains_key-clause-answer : goal.returns-then-not-contains_key-clause-answer
+returns-then-not-contains_key-clause-answer c =
+    let absent = ap is_some (sym (lookup-at c.args.id c.self.inside.vertices.entries)) ∙ sym c.if-not-contains_key.ensures in
+    subst (λ (p : Plain). Gives p.shape p.graph (DropVertex c.args.id) p.graph (NoVertex c.args.id)) c.self.view_is
+    (drop-no_vertex c.self.inside.geometry (graph_of c.self.inside.labels c.self.inside.types c.self.inside.vertices.entries) c.args.id absent)
 
-no_vertex : (c : goal.Then-is_none) → answer_to c.args.self.now.shape c.args.self.now.graph (DropVertex c.args.id) ≡ (record { graph = graph_of_vertices (without c.self.inside.vertices.entries c.args.id); reply = NoVertex c.args.id })
-no_vertex c =
-    let vertices = c.self.inside.vertices.entries in
-    let absent = ap is_some (sym (lookup-at c.args.id vertices) ∙ sym c.remove.ensures.value) ∙ c.if-is_none.ensures in
-    subst (λ (p : Plain). answer_to p.shape p.graph (DropVertex c.args.id) ≡ (record { graph = graph_of_vertices (without vertices c.args.id); reply = NoVertex c.args.id })) c.self.view_is
-    (answer_to-drop c.self.inside.geometry vertices c.args.id false absent)
+pub uncount_labels-requires : goal.uncount_labels-requires
+uncount_labels-requires c = λ q.
+    omega (arith, c.self.invariant.slots c.if-self.false q, kept-removed c.self.inside.geometry c.self.inside.vertices.entries c.args.id c.in-Some.vertex q (sym (c.in-Some.ensures.value ∙ lookup-at c.args.id c.self.inside.vertices.entries)))
 
-pub returns-then-is_none-clause-reply : goal.returns-then-is_none-clause-reply
-returns-then-is_none-clause-reply c = sym (ap (λ (answer : Answer). answer.reply) (no_vertex c))
-
-pub returns-then-is_none-clause-graph : goal.returns-then-is_none-clause-graph
-returns-then-is_none-clause-graph c =
-    ap graph_of_vertices (removed c.args.id c.self.inside.vertices.entries c.remove.new.self.entries c.remove.ensures.entries c.remove.ensures.updates.1) ∙ sym (ap (λ (answer : Answer). answer.graph) (no_vertex c))
-
--- ---- a vertex that is there
-
-pub overflow_sub-count : goal.overflow_sub-count
-overflow_sub-count c =
-    let there = ap is_some (sym (lookup-at c.args.id c.self.inside.vertices.entries) ∙ sym c.remove.ensures.value) ∙ c.if-is_none.ensures in
-    let counted = some_counted c.self.inside.geometry c.self.inside.vertices.entries c.self.inside.bucket_counts.entries c.self.invariant c.args.id c.bucket_pointer-bucket.result c.count_of-count.result
-    c.bucket_pointer-bucket.ensures (c.count_of-count.ensures ∙ c.self.invariant c.bucket_pointer-bucket.result) there in
-    omega (arith, counted)
-
--- it is counted, so a count stands there
-pub unreachable-requires : goal.unreachable-requires
-unreachable-requires c =
-    let there = ap is_some (sym (lookup-at c.args.id c.self.inside.vertices.entries) ∙ sym c.remove.ensures.value) ∙ c.if-is_none.ensures in
-    let counted = some_counted c.self.inside.geometry c.self.inside.vertices.entries c.self.inside.bucket_counts.entries c.self.invariant c.args.id c.bucket_pointer-bucket.result c.count_of-count.result
-    c.bucket_pointer-bucket.ensures (c.count_of-count.ensures ∙ c.self.invariant c.bucket_pointer-bucket.result) there in
-    let none = c.count_of-count.ensures ∙ ap (λ o. unwrap_or o 0) (sym (lookup-at c.bucket_pointer-bucket.result c.self.inside.bucket_counts.entries) ∙ c.in_default.ensures.absent) in
-    omega (arith, counted, none)
-
-there : (c : goal.In-Ok) → is_there c.self.inside.vertices.entries c.args.id ≡ true
-there c = ap is_some (sym (lookup-at c.args.id c.self.inside.vertices.entries) ∙ sym c.remove.ensures.value) ∙ c.if-is_none.ensures
+pub lower-requires : goal.lower-requires
+lower-requires c =
+    let there = ap is_some (sym (lookup-at c.args.id c.self.inside.vertices.entries)) ∙ sym c.if-not-contains_key.ensures in
+    subst (λ raw. 1 ≤ count_of c.self.inside.bucket_counts raw) (sym (c.raw-bucket.ensures.value ∙ ap raw_of c.bucket.ensures.value))
+    (some_counted c.self.inside.geometry c.self.inside.vertices.entries c.self.inside.bucket_counts (c.self.invariant.buckets c.if-self.false) c.args.id there)
 
 pub invariant_of-self-2 : goal.invariant_of-self-2
 invariant_of-self-2 c =
-    counts_lowered c.self.inside.geometry c.self.inside.vertices.entries c.self.inside.bucket_counts.entries c.self.invariant c.args.id c.bucket_pointer-bucket.result c.count_of-count.result
-    c.bucket_pointer-bucket.ensures (c.count_of-count.ensures ∙ c.self.invariant c.bucket_pointer-bucket.result)
-    c.remove.new.self.entries c.insert.new.self.entries (there c) c.remove.ensures.entries c.in-Ok.ensures.entries
+    let there = ap is_some (sym (lookup-at c.args.id c.self.inside.vertices.entries)) ∙ sym c.if-not-contains_key.ensures in
+    let lowered = subst (λ raw. (q : ℕ) → count_of c.lower.new.self q + cond (eqb raw q) 1 0 ≡ count_of c.self.inside.bucket_counts q) (c.raw-bucket.ensures.value ∙ ap raw_of c.bucket.ensures.value) c.in_ok-lower.ensures in
+    record {
+      names = c.self.invariant.names;
+      buckets = λ whole. buckets-lowered c.self.inside.geometry c.self.inside.vertices.entries c.self.inside.bucket_counts (c.self.invariant.buckets c.if-self.false) c.args.id c.remove.new.self.entries c.lower.new.self
+          there c.remove.ensures.entries lowered;
+      slots = λ whole q. omega (
+        arith,
+        c.in_ok-uncount_labels.ensures q,
+        c.self.invariant.slots c.if-self.false q,
+        ap (λ vs. kept_by c.self.inside.geometry vs q) c.remove.ensures.entries,
+        kept-removed c.self.inside.geometry c.self.inside.vertices.entries c.args.id c.in-Some.vertex q (sym (c.in-Some.ensures.value ∙ lookup-at c.args.id c.self.inside.vertices.entries)),
+      );
+    }
 
-done : (c : goal.In-Ok) → answer_to c.args.self.now.shape c.args.self.now.graph (DropVertex c.args.id) ≡ (record { graph = graph_of_vertices (without c.self.inside.vertices.entries c.args.id); reply = Done })
-done c =
-    subst (λ (p : Plain). answer_to p.shape p.graph (DropVertex c.args.id) ≡ (record { graph = graph_of_vertices (without c.self.inside.vertices.entries c.args.id); reply = Done })) c.self.view_is
-    (answer_to-drop c.self.inside.geometry c.self.inside.vertices.entries c.args.id true (there c))
-
-pub returns-clause-reply : goal.returns-clause-reply
-returns-clause-reply c = sym (ap (λ (answer : Answer). answer.reply) (done c))
-
-pub returns-clause-graph : goal.returns-clause-graph
-returns-clause-graph c =
-    ap graph_of_vertices (removed c.args.id c.self.inside.vertices.entries c.remove.new.self.entries c.remove.ensures.entries c.remove.ensures.updates.1) ∙ sym (ap (λ (answer : Answer). answer.graph) (done c))
+pub returns-clause-answer : goal.returns-clause-answer
+returns-clause-answer c =
+    let there = ap is_some (sym (lookup-at c.args.id c.self.inside.vertices.entries)) ∙ sym c.if-not-contains_key.ensures in
+    let gone = removed c.args.id c.self.inside.vertices.entries c.remove.new.self.entries c.remove.ensures.entries c.remove.ensures.updates.1 in
+    subst (λ (p : Plain). Gives p.shape p.graph (DropVertex c.args.id) (graph_of c.self.inside.labels c.self.inside.types c.remove.new.self.entries) Done) c.self.view_is
+    (drop-done c.self.inside.geometry (graph_of c.self.inside.labels c.self.inside.types c.self.inside.vertices.entries) c.args.id there
+    ∙ ap (λ vs. record { graph = graph_of c.self.inside.labels c.self.inside.types vs; reply = Done }) (sym gone))
