@@ -4,6 +4,8 @@
 mod bucket;
 mod calls;
 mod laws;
+#[cfg(test)]
+mod tests;
 
 pub use calls::add::add;
 pub use calls::find::find;

@@ -2,7 +2,7 @@ use Rattle.std.proofs.Common.{sym, subst}
 use Rattle.rma_layout.specs.Placement.{Place, IsReserved}
 use Rattle.object_store.proofs.Working.{fresh_reaches}
 use Rattle.id_hash.proofs.Knows.{known_elsewhere, unreserved_is_no_bucket}
-use Rattle.store_tests.proofs.identifiers.make.Goals as goal
+use Rattle.id_hash.proofs.tests.make.Goals as goal
 
 -- the object that was made is no bucket
 pub add-requires-clause-absent : goal.add-requires-clause-absent

@@ -1,5 +1,5 @@
 use Rattle.std.proofs.Common.{sym}
-use Rattle.store_tests.proofs.identifiers.add_beside.Goals as goal
+use Rattle.id_hash.proofs.tests.add_beside.Goals as goal
 
 pub remove-requires-clause-present : goal.remove-requires-clause-present
 remove-requires-clause-present g c = c.in_ok-added.ensures.added.others.has c.args.other c.requires.apart c.requires.present

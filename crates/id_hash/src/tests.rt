@@ -1,15 +1,34 @@
 ghost use Rattle.std.specs.Prelude.{◌≡◌, ◌≢◌, ◌≤◌, true, IfOk, OnOk};
 ghost use Rattle.rma_layout.specs.Shape.{Shape};
+ghost use Rattle.object_words.specs.Contents.{Contents, Agrees, overlay};
+ghost use Rattle.graph_model.specs.Graph.{Graph};
 ghost use Rattle.object_store.specs.declared.phase.Phase.TheVariants.{Idle, Writing};
 ghost use Rattle.held_objects.specs.Knows.{Knows};
 ghost use Rattle.id_hash.specs.Buckets.{Has, Lacks, Leads};
+ghost use Rattle.holder_codec.specs.Represents.{Represents};
+ghost use Rattle.holder_codec.specs.Keeping.{keeps_by_steps};
 
-use crate::keeping::Keeping;
-use id_hash::{add, find, remove, room};
+use crate::{add, find, remove, room};
+use holder_codec::KeepsGraph;
 use object_store::{PlainStore, Store};
+use object_words::Law;
 use rma_layout::{DPtr, Geometry};
 use std::alloc::Global;
 use std::test::Fail;
+
+/// The least that a law asks for that keeps a graph: what was a graph is one with the writes.
+struct Keeping;
+
+impl Law for Keeping {
+    type Note = ();
+
+    ghost fits = { λ shape entry. (store : Contents) (g : Graph) → Represents shape store g → Agrees entry.reads store →
+        (h : Graph) × Represents shape (overlay store entry.writes) h };
+}
+
+impl KeepsGraph for Keeping {
+    ghost keeps_graph = { keeps_by_steps Self.fits (λ shape entry store g range fits is agrees. fits store g is agrees) };
+}
 
 /// What a transaction finds of an identifier that it adds, and that it removes again.
 #[derive(Clone, Copy, Debug, PartialEq, Eq)]

@@ -1,7 +1,7 @@
 use Rattle.std.proofs.Common.{subst, sym, ◌∙◌}
 use Rattle.rma_layout.specs.Ranges.{IsInRange}
 use Rattle.id_hash.proofs.Knows.{leads_at_first}
-use Rattle.store_tests.proofs.identifiers.make_many.Goals as goal
+use Rattle.id_hash.proofs.tests.make_many.Goals as goal
 
 pub loop-id-init : goal.loop-id-init
 loop-id-init g c = record {

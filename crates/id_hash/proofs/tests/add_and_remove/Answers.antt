@@ -3,7 +3,7 @@ use Rattle.rma_layout.specs.Ranges.{IsInRange}
 use Rattle.object_store.proofs.Works.{read_looks}
 use Rattle.held_objects.proofs.Knows.{still}
 use Rattle.id_hash.proofs.Knows.{leads_at_first}
-use Rattle.store_tests.proofs.identifiers.add_and_remove.Goals as goal
+use Rattle.id_hash.proofs.tests.add_and_remove.Goals as goal
 
 pub find-requires-clause-leads : goal.find-requires-clause-leads
 find-requires-clause-leads g c =
