@@ -1,148 +1,144 @@
 ghost use Rattle.std.specs.Prelude.{IfOk};
-ghost use Rattle.std.specs.List.{AllByRecursion};
 ghost use Rattle.plain_graph.specs.Plain.{Stands};
 
-use gdi_kinds::{Call, CallList, Kind, Name, NoMemory, Reply, Txn, Value};
+use gdi_kinds::{Call, Kind, Name, NoMemory, Reply, Value};
 use plain_graph::PlainGraph;
 use rma_layout::Geometry;
-use std::alloc::Global;
 use std::test::Fail;
 
-// Does a call, of whose answer a test's proof needs to know nothing.
-fn ask(graph: &mut PlainGraph, call: &Call) -> Result<Reply, Fail>
-    requires { Stands call.now }
+/// How many calls the test makes.
+const STEPS: u64 = 4030;
+
+fn person() -> Result<Name, NoMemory> {
+    Name::of(b"Person").ok_or(NoMemory)
+}
+
+fn years() -> Result<Name, NoMemory> {
+    Name::of(b"years").ok_or(NoMemory)
+}
+
+// What is asked at a step: vertices come and go, several of a bucket among them.
+fn call_at(step: u64) -> Result<Call, NoMemory>
+    ensures { IfOk result (λ call. Stands call) }
 {
-    Ok(graph.apply(call)?)
-}
-
-// Whether a call is done.
-fn done(graph: &mut PlainGraph, call: &Call) -> Result<bool, Fail>
-    requires { Stands call.now }
-{
-    Ok(matches!(ask(graph, call)?, Reply::Done))
-}
-
-fn has(graph: &mut PlainGraph, id: u64) -> Result<bool, Fail> {
-    Ok(matches!(ask(graph, &Call::Has { id })?, Reply::Yes))
-}
-
-// How many values a property of vertex 7 has.
-fn value_count(graph: &mut PlainGraph, prop: Name) -> Result<usize, Fail> {
-    match ask(graph, &Call::Get { id: 7, prop })? {
-        Reply::Values(values) => Ok(values.len()),
-        Reply::Value(_) => Ok(1),
-        _ => Ok(0),
-    }
-}
-
-#[test]
-fn vertices_come_and_go(rt: HostRuntime) -> Result<(), Fail> {
-    let mut graph = PlainGraph::new(rt.alloc(), Geometry::standard());
-    for id in 0..500u64 {
-        assert!(rt; done(&mut graph, &Call::Vertex { id })?);
-        assert!(rt; !done(&mut graph, &Call::Vertex { id })?);
-    }
-    // Each 256th has the same bucket.
-    for n in 2..500u64 {
-        assert!(rt; done(&mut graph, &Call::Vertex { id: 256 * n })?);
-    }
-    for id in 0..500u64 {
-        assert!(rt; has(&mut graph, id)?);
-        assert!(rt; done(&mut graph, &Call::DropVertex { id })?);
-        assert!(rt; !done(&mut graph, &Call::DropVertex { id })?);
-        assert!(rt; !has(&mut graph, id)?);
-    }
-    Ok(())
-}
-
-#[test]
-fn properties_are_set_and_added(rt: HostRuntime) -> Result<(), Fail> {
-    let mut graph = PlainGraph::new(rt.alloc(), Geometry::standard());
-    let prop = Name::of(b"years").ok_or(NoMemory)?;
-    let kind = Kind::Int;
-    assert!(rt; done(&mut graph, &Call::Vertex { id: 7 })?);
-    for many in [true, false] {
-        let made = done(
-            &mut graph,
-            &Call::NewType {
-                name: prop,
-                kind,
-                many,
-            },
-        )?;
-        assert!(rt; made == many);
-    }
-    for n in 0..10i64 {
-        let value = Value::Int(n);
-        assert!(rt; done(&mut graph, &Call::Add { id: 7, prop, value })?);
-    }
-    assert!(rt; value_count(&mut graph, prop)? == 10);
-    let value = Value::Int(10);
-    assert!(rt; done(&mut graph, &Call::Set { id: 7, prop, value })?);
-    assert!(rt; value_count(&mut graph, prop)? == 1);
-    for there in [true, false] {
-        assert!(rt; done(&mut graph, &Call::Unset { id: 7, prop })? == there);
-    }
-    Ok(())
-}
-
-#[test]
-fn labels_are_put_on_and_taken_off(rt: HostRuntime) -> Result<(), Fail> {
-    let mut graph = PlainGraph::new(rt.alloc(), Geometry::standard());
-    let label = Name::of(b"Person").ok_or(NoMemory)?;
-    for fresh in [true, false] {
-        assert!(rt; done(&mut graph, &Call::NewLabel { name: label })? == fresh);
-    }
-    for id in 0..20u64 {
-        assert!(rt; done(&mut graph, &Call::Vertex { id })?);
-        for lacks in [true, false] {
-            assert!(rt; done(&mut graph, &Call::Tag { id, label })? == lacks);
-        }
-    }
-    for id in 0..10u64 {
-        for has in [true, false] {
-            assert!(rt; done(&mut graph, &Call::Untag { id, label })? == has);
-        }
-    }
-    for id in 0..20u64 {
-        assert!(rt; done(&mut graph, &Call::DropVertex { id })?);
-    }
-    Ok(())
-}
-
-// A transaction that makes vertex 3, or drops it.
-fn making(alloc: Global, makes: bool, aborts: bool) -> Result<Txn, NoMemory>
-    ensures { IfOk result (λ txn. AllByRecursion Stands txn.calls) }
-{
-    let mut calls = CallList::new(alloc);
-    if makes {
-        calls.push(Call::Vertex { id: 3 })?;
-    } else {
-        calls.push(Call::DropVertex { id: 3 })?;
-    }
-    Ok(Txn {
-        whole: false,
-        calls,
-        aborts,
+    Ok(match step {
+        0..=999 => Call::Vertex { id: step % 500 },
+        1000..=1497 => Call::Vertex {
+            id: 256 * (step - 998),
+        },
+        1498..=1999 => Call::Has { id: step - 1498 },
+        2000..=2999 => Call::DropVertex { id: step % 500 },
+        3000..=3499 => Call::Has { id: step - 3000 },
+        _ => return labels_at(step),
     })
 }
 
-// Runs it, and says how many replies there are.
-fn run(graph: &mut PlainGraph, txn: &Txn) -> Result<usize, Fail>
-    requires { AllByRecursion Stands txn.now.calls }
+fn reply_at(step: u64) -> &'static str {
+    match step {
+        500..=999 => "exists",
+        1498..=1997 => "yes",
+        1998..=1999 | 3000..=3499 => "no",
+        2500..=2999 => "no vertex",
+        _ => labels_told(step),
+    }
+}
+
+// The same of a label that twenty vertices get, and ten lose.
+fn labels_at(step: u64) -> Result<Call, NoMemory>
+    ensures { IfOk result (λ call. Stands call) }
 {
-    Ok(graph.run(txn)?.len())
+    let label = person()?;
+    Ok(match step {
+        3500..=3599 => Call::NewLabel { name: label },
+        3600..=3619 => Call::Vertex { id: step - 3600 },
+        3620..=3659 => Call::Tag {
+            id: (step - 3620) / 2,
+            label,
+        },
+        3660..=3679 => Call::Untag {
+            id: (step - 3660) / 2,
+            label,
+        },
+        _ => return values_at(step),
+    })
+}
+
+fn labels_told(step: u64) -> &'static str {
+    match step {
+        3501..=3599 => "exists",
+        3621..=3659 if step % 2 == 1 => "has label",
+        3661..=3679 if step % 2 == 1 => "lacks label",
+        _ => values_told(step),
+    }
+}
+
+// And of a property of vertex 7 that may have many values.
+fn values_at(step: u64) -> Result<Call, NoMemory>
+    ensures { IfOk result (λ call. Stands call) }
+{
+    let (id, prop) = (7, years()?);
+    Ok(match step {
+        3680..=3681 => Call::NewType {
+            name: prop,
+            kind: Kind::Int,
+            many: true,
+        },
+        3682..=3999 => Call::Add {
+            id,
+            prop,
+            value: Value::Int(5),
+        },
+        4001 => Call::Set {
+            id,
+            prop,
+            value: Value::Int(-3),
+        },
+        4003..=4004 => Call::Unset { id, prop },
+        4005 => Call::DropVertex { id },
+        _ => Call::Get { id, prop },
+    })
+}
+
+fn values_told(step: u64) -> &'static str {
+    match step {
+        3681 => "exists",
+        4000 => "318 values",
+        4002 => "one value",
+        4004 => "no prop",
+        4006..=4029 => "no vertex",
+        _ => "done",
+    }
+}
+
+fn count_told(many: usize) -> &'static str {
+    match many {
+        1 => "one value",
+        318 => "318 values",
+        _ => "other values",
+    }
+}
+
+fn told(reply: &Reply) -> &'static str {
+    match reply {
+        Reply::Done => "done",
+        Reply::Yes => "yes",
+        Reply::No => "no",
+        Reply::Exists => "exists",
+        Reply::NoVertex(_) => "no vertex",
+        Reply::HasLabel => "has label",
+        Reply::LacksLabel => "lacks label",
+        Reply::NoProp => "no prop",
+        Reply::Values(values) => count_told(values.len()),
+        _ => "another",
+    }
 }
 
 #[test]
-fn an_abort_leaves_the_graph(rt: HostRuntime) -> Result<(), Fail> {
-    let alloc = rt.alloc();
-    let mut graph = PlainGraph::new(alloc, Geometry::standard());
-    for makes in [true, false] {
-        assert!(rt; run(&mut graph, &making(alloc, makes, true)?)? == 1);
-        assert!(rt; has(&mut graph, 3)? != makes);
-        assert!(rt; run(&mut graph, &making(alloc, makes, false)?)? == 1);
-        assert!(rt; has(&mut graph, 3)? == makes);
+fn calls_have_their_replies(rt: HostRuntime) -> Result<(), Fail> {
+    let mut graph = PlainGraph::new(rt.alloc(), Geometry::standard());
+    for step in 0..STEPS {
+        let reply = graph.apply(&call_at(step)?)?;
+        assert_eq!(rt; told(&reply), reply_at(step), "step {step}");
     }
     Ok(())
 }

@@ -79,7 +79,7 @@ fn empty<S: Store<Anything>>(store: &mut S, alloc: Global, at: DPtr) -> Result<b
         store.abort();
         return Ok(false);
     }
-    store.write(at, numbers(alloc, 0)?)?;
+    store.write(at, Words::new(alloc))?;
     store.commit(&Blank)?;
     Ok(true)
 }

@@ -76,7 +76,7 @@ impl PlainGraph {
     }
 
     /// Does a call and answers its reply. So far it takes the calls that make labels and types, those that make, drop and
-    /// ask for vertices, and those that set, add, get and unset a property of a vertex.
+    /// ask for vertices, those that tag and untag a vertex, and those that set, add, get and unset a property of it.
     pub fn apply(&mut self, call: &Call) -> Result<Reply, ModelRefused>
         requires { Stands call.now }
         ensures shape { self.new.shape ≡ self.old.shape }

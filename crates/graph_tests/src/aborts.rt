@@ -1,0 +1,57 @@
+ghost use Rattle.std.specs.Prelude.{IfOk};
+ghost use Rattle.std.specs.List.{AllByRecursion};
+ghost use Rattle.plain_graph.specs.Plain.{Stands};
+
+use gdi_kinds::{Call, CallList, NoMemory, Reply, Txn};
+use plain_graph::PlainGraph;
+use rma_layout::Geometry;
+use std::alloc::Global;
+use std::test::Fail;
+
+// Does a call, of whose answer a test's proof needs to know nothing.
+fn ask(graph: &mut PlainGraph, call: &Call) -> Result<Reply, Fail>
+    requires { Stands call.now }
+{
+    Ok(graph.apply(call)?)
+}
+
+fn has(graph: &mut PlainGraph, id: u64) -> Result<bool, Fail> {
+    Ok(matches!(ask(graph, &Call::Has { id })?, Reply::Yes))
+}
+
+// A transaction that makes vertex 3, or drops it.
+fn making(alloc: Global, makes: bool, aborts: bool) -> Result<Txn, NoMemory>
+    ensures { IfOk result (λ txn. AllByRecursion Stands txn.calls) }
+{
+    let mut calls = CallList::new(alloc);
+    if makes {
+        calls.push(Call::Vertex { id: 3 })?;
+    } else {
+        calls.push(Call::DropVertex { id: 3 })?;
+    }
+    Ok(Txn {
+        whole: false,
+        calls,
+        aborts,
+    })
+}
+
+// Runs it, and says how many replies there are.
+fn run(graph: &mut PlainGraph, txn: &Txn) -> Result<usize, Fail>
+    requires { AllByRecursion Stands txn.now.calls }
+{
+    Ok(graph.run(txn)?.len())
+}
+
+#[test]
+fn an_abort_leaves_the_graph(rt: HostRuntime) -> Result<(), Fail> {
+    let alloc = rt.alloc();
+    let mut graph = PlainGraph::new(alloc, Geometry::standard());
+    for makes in [true, false] {
+        assert!(rt; run(&mut graph, &making(alloc, makes, true)?)? == 1);
+        assert!(rt; has(&mut graph, 3)? != makes);
+        assert!(rt; run(&mut graph, &making(alloc, makes, false)?)? == 1);
+        assert!(rt; has(&mut graph, 3)? == makes);
+    }
+    Ok(())
+}
