@@ -1,0 +1,14 @@
+mod Cuts
+mod Forms
+mod Listed
+mod Meanings
+mod Parses
+mod Refusals
+mod Rows
+mod Rules
+mod Settling
+mod Sourced
+mod Standing
+mod Taken
+mod Turns
+mod Understood

@@ -1,0 +1,2 @@
+mod LoadGraphs
+mod SerialIsLegal

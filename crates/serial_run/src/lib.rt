@@ -1,0 +1,6 @@
+//! Scripts that run one transaction after the other on a plain graph, and the law that such a run is legal.
+#![tactic(auto)]
+
+mod law;
+
+pub use law::serial_runs_are_legal;
