@@ -1,10 +1,12 @@
 -- A window and a rank, as contracts see them.
-use Rattle.std.specs.Prelude.{◌≡◌, ◌≢◌, []}
+use Rattle.std.specs.Prelude.{◌≡◌, ◌≢◌, ℕ, ◌<◌, [], Some}
 use Rattle.rma_layout.specs.Shape.{Shape, window_words}
 use Rattle.rma_layout.specs.Ranges.{IsInRange}
 use Rattle.atomic_table.specs.Seated.{TableId}
 use Rattle.atomic_table.specs.Table.{Me}
 use Rattle.window_rule.specs.View.{View}
+use Rattle.window_rule.specs.Opening.{first_note}
+use Rattle.window_rule.specs.Pool.{note_of}
 use Rattle.window_rule.specs.Spares.{SpareEnds, HasSpares}
 
 -- which window it is, and its shape
@@ -30,3 +32,8 @@ pub record IsSized (id : TableId) (key shape : Shape) : Type 0 where
   pub words : id.words ≡ window_words shape
   pub same : key ≡ shape
   pub in_range : IsInRange shape
+
+-- the view knows each free list, with the head that a window begins with
+abbrev pub HasLists : {N : Type 0} → Shape → ℕ → View N → Type 0
+HasLists shape tag view = (rank : ℕ) → rank < shape.ranks
+    → note_of view.notes rank ≡ Some (first_note shape tag rank)
