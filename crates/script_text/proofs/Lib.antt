@@ -5,3 +5,4 @@ pub mod PartLemmas
 pub mod PrintedLemmas
 pub mod LineLaw
 pub mod ScriptLaw
+pub mod OldLaw
