@@ -3,3 +3,4 @@ pub mod TriesKept
 pub mod SparesTaken
 pub mod GivesKept
 pub mod Walks
+pub mod Drained

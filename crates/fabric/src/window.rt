@@ -6,7 +6,7 @@ ghost use Rattle.window_rule.specs.Spares.{HasNone};
 ghost use Rattle.fabric.specs.Window.{HasLists};
 
 use crate::opening::first_words;
-use crate::rank::{Rank, no_spares};
+use crate::rank::{Rank, first_rights, no_spares};
 use crate::rule::{Lawful, Opening};
 use crate::view::View;
 use atomic_table::Table;
@@ -71,7 +71,8 @@ impl<L: Law> Window<L> {
         geometry.keeps_ranges();
         let words = first_words(alloc, &geometry, tag)?;
         let (table, seat) = Table::of_words(alloc, words.as_slice(), &Opening { geometry, tag })?;
-        let rank = Rank::seated(seat, geometry, no_spares(alloc)?, no_spares(alloc)?);
+        let rights = first_rights(alloc, geometry.ranks())?;
+        let rank = Rank::seated(seat, geometry, rights, no_spares(alloc)?, no_spares(alloc)?);
         Ok((Window { table, geometry }, rank))
     }
 

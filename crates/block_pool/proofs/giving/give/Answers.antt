@@ -1,11 +1,11 @@
-use Rattle.std.proofs.Common.{◌≡◌, ◌+◌, ◌<◌, ◌^◌, sym, ap, ◌∙◌, subst, refl, inl, inr, arith}
-use Rattle.window_rule.specs.Pool.{MayBeFree}
-use Rattle.window_rule.specs.Spares.{HasSpares, first_spare_of}
+use Rattle.std.proofs.Common.{◌≡◌, ap, subst, refl, inl, inr, arith}
+use Rattle.window_rule.specs.Spares.{HasSpares}
 use Rattle.window_rule.specs.Trails.{trail_of}
 use Rattle.window_rule.proofs.Trails.{follows_trans, goes_on-refl}
 use Rattle.block_pool.specs.Moves.{Failed}
 use Rattle.block_pool.proofs.MovesKept.{failed_none, failed_sum}
-use Rattle.block_pool.proofs.GivesKept.{first_spare_small, frees_after, keeps_after, looked_since, may_after, relinks_after}
+use Rattle.block_pool.proofs.GivesKept.{frees_after, keeps_after, looked_since, may_after, relinks_after}
+use Rattle.fabric.proofs.SparesJoined.{first_spare_small}
 use Rattle.block_pool.proofs.giving.give.Goals as goal
 
 pub loop-init : goal.loop-init
