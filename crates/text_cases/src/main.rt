@@ -4,6 +4,7 @@
 //! With a word it is the name of a script's file, which is read as a script and printed.
 #![tactic(auto)]
 
+mod outputs;
 mod scripts;
 mod table;
 mod unescaped;
@@ -22,7 +23,9 @@ fn main(rt: HostRuntime) -> io::Result<()> {
     }
     check(&rt, "scripts", Table::Scripts)?;
     check(&rt, "script_faults", Table::ScriptFaults)?;
-    check(&rt, "script_limits", Table::ScriptLimits)
+    check(&rt, "script_limits", Table::ScriptLimits)?;
+    check(&rt, "outputs", Table::Outputs)?;
+    check(&rt, "output_faults", Table::OutputFaults)
 }
 
 // Reads a file as a script and prints it.
