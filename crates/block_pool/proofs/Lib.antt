@@ -4,3 +4,4 @@ pub mod SparesTaken
 pub mod GivesKept
 pub mod Walks
 pub mod Drained
+pub mod ForUse

@@ -41,7 +41,7 @@ pub noted_bounds : {N : Type 0} (found : Option HeadNote) (block : Place) (next 
     (view : View N) → (noted_next found block next view).bounds ≡ view.bounds
 noted_bounds None block next view = refl
 noted_bounds (Some note) block next view = elim (first_of note.head == block.block) as
-    (λ b. (cond b (nexted note next view) view).bounds ≡ view.bounds) [ | true ↦ refl | false ↦ refl ]
+    (λ b. (cond b (nexted note next view) view).bounds ≡ view.bounds) [ true ↦ refl | false ↦ refl ]
 
 noted_seen : {N : Type 0} (found : Option HeadNote) (block : Place) (next : ℕ) (view : View N)
     → ((noted_next found block next view).looks ≡ view.looks)

@@ -6,11 +6,16 @@ use Rattle.object_words.specs.Blocks.{one_if}
 use Rattle.window_rule.specs.View.{View, OwnBlock}
 use Rattle.window_rule.specs.Locks.{hold_of}
 use Rattle.window_rule.specs.Partition.{places_of, times}
-use Rattle.window_rule.specs.Spares.{IsNoSpare, own_next_of, with_spare}
+use Rattle.window_rule.specs.Spares.{HasSpares, IsNoSpare, own_next_of, with_spare}
 use Rattle.fabric.specs.Window.{RankModel}
 use Rattle.block_pool.specs.Moves.{Failed, IsWorn, Looked}
 use Rattle.block_pool.specs.declared.giving.Push.{Push}
 use Rattle.block_pool.specs.declared.giving.Push.TheVariants.{Made, Missed, Refused}
+
+-- the block is the rank's own and no spare, so it is for use
+pub record IsForUse {N : Type 0} (shape : Shape) (rank : RankModel N) (block : Place) : Type 0 where
+  pub own : 0 < times block (places_of rank.view.private)
+  pub no_spare : IsNoSpare shape rank.view.private rank.spares block
 
 -- the block is the rank's own, for use and not locked, and the rank has nothing detached
 pub record MayGive {N : Type 0} (shape : Shape) (rank : RankModel N) (block : Place) : Type 0 where
