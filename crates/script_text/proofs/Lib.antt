@@ -6,3 +6,6 @@ pub mod PrintedLemmas
 pub mod LineLaw
 pub mod ScriptLaw
 pub mod OldLaw
+pub mod FaultlessWords
+pub mod FaultlessCalls
+pub mod FaultlessLaw

@@ -5,3 +5,4 @@ pub mod Shown
 pub mod Faults
 pub mod Reading
 pub mod OldScripts
+pub mod Faultless
