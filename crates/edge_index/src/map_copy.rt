@@ -5,7 +5,7 @@ use std::alloc::Global;
 use std::collections::BTreeMap;
 
 /// A copy of a map, with the same entries.
-pub(crate) fn copy_of_map<K: Ord + Copy + Drop, V: Duplicate + Drop>(
+pub fn copy_of_map<K: Ord + Copy + Drop, V: Duplicate + Drop>(
     alloc: Global,
     map: &BTreeMap<K, V, Global>,
 ) -> Result<BTreeMap<K, V, Global>, NoMemory>

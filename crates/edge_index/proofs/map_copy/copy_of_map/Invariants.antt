@@ -1,5 +1,5 @@
 use Rattle.std.proofs.Common.{◌≡◌, ◌++◌}
-use Rattle.plain_graph.proofs.map_copy.copy_of_map.Given as goal
+use Rattle.edge_index.proofs.map_copy.copy_of_map.Given as goal
 
 -- the entries so far, and those to come
 abbrev pub invariant-loop-key : goal.invariant-loop-key

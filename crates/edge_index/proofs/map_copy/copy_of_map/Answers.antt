@@ -1,8 +1,8 @@
 use Rattle.std.proofs.Common.{◌++◌, ap, sym, ◌∙◌}
 use Rattle.std.specs.BTreeMap.{insert_entry}
 use Rattle.std.proofs.lemmas.List.{append-nil}
-use Rattle.plain_graph.proofs.OrderedMaps.{copied_more}
-use Rattle.plain_graph.proofs.map_copy.copy_of_map.Goals as goal
+use Rattle.edge_index.proofs.OrderedEntries.{copied_more}
+use Rattle.edge_index.proofs.map_copy.copy_of_map.Goals as goal
 
 pub loop-key-preserved-in_ok-insert : goal.loop-key-preserved-in_ok-insert
 loop-key-preserved-in_ok-insert g c =
