@@ -3,3 +3,4 @@ pub mod SeatCalls
 pub mod RightsKept
 pub mod SparesJoined
 pub mod Written
+pub mod MarkedPairs
