@@ -154,7 +154,10 @@ fn properties(rt: HostRuntime) -> Result<(), Fail> {
     };
     assert!(rt; matches!(&found.set, Reply::Done));
     assert!(rt; matches!(&found.set_again, Reply::Done));
-    assert_eq!(rt; found.words.as_slice(), [5, 0, 0, 1, 0, 0, 8, 36].as_slice());
+    assert_eq!(rt;
+        found.words.as_slice(),
+        [5, 0, 0, 1, 0, 0, 8, 36].as_slice()
+    );
     assert!(rt; matches!(&found.cleared, Reply::Done));
     assert!(rt; matches!(&found.cleared_again, Reply::NoProp));
     Ok(())
