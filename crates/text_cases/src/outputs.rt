@@ -1,4 +1,4 @@
-use gdi_kinds::NoMemory;
+use gdi_kinds::{Bytes, NoMemory};
 use outcome_text::{OutputRefused, print_outcomes, read_outcomes};
 use std::alloc::Global;
 
@@ -16,4 +16,10 @@ pub(crate) fn is_output_refused(alloc: Global, text: &[u8], line: u64) -> bool {
         Ok(_) => line == 0,
         Err(refused) => refused == OutputRefused::Bad { line },
     }
+}
+
+/// The text that is printed of the run whose text this is.
+pub(crate) fn output_again(alloc: Global, text: &[u8]) -> Result<Bytes, OutputRefused> {
+    let run = read_outcomes(alloc, text)?;
+    Ok(print_outcomes(alloc, &run)?)
 }
