@@ -1,7 +1,8 @@
 -- What one try to give a block back tells.
-use Rattle.std.proofs.Common.{◌≡◌, ◌≢◌, ℕ, ◌+◌, ◌<◌, ◌^◌, List, [], ◌∷◌, ◌++◌, refl, sym, ap, ◌∙◌, subst, inl, inr, arith, Option, Some, None, cond, eq-eqb}
+use Rattle.std.proofs.Common.{◌≡◌, ◌≢◌, ℕ, ◌+◌, ◌<◌, ◌^◌, List, [], ◌∷◌, ◌++◌, refl, sym, ap, ◌∙◌, subst, inl, inr, arith, Option, Some, None, ◌==◌, cond, eq-eqb}
 use Rattle.std.specs.List.{AllByRecursion}
-use Rattle.std.proofs.lemmas.Bool.{cases_eq}
+use Rattle.std.proofs.lemmas.Bool.{cases_Bool, cases_eq}
+use Rattle.std.proofs.lemmas.List.Sums.{sum_by-cons}
 use Rattle.rma_layout.specs.Shape.{Shape}
 use Rattle.rma_layout.specs.Placement.{Place, IsBlock, same_place}
 use Rattle.object_words.specs.Blocks.{one_if}
@@ -11,8 +12,9 @@ use Rattle.window_rule.specs.View.{View, OwnBlock, HeadNote, Look, Miss}
 use Rattle.window_rule.specs.Locks.{hold_of}
 use Rattle.window_rule.specs.Partition.{places_of, times}
 use Rattle.window_rule.specs.RoomHolds.{count_on}
-use Rattle.window_rule.specs.Pool.{Heads, MayBeFree, MayPush, headed, linked, missed, next_in, note_of, own_next_of, own_of, pushed, with_link, without_note, without_own}
+use Rattle.window_rule.specs.Pool.{Heads, MayBeFree, MayPush, headed, linked, missed, next_in, note_of, own_next_of, own_of, pushed, raised, with_link, without_bound, without_note, without_own}
 use Rattle.window_rule.specs.Spares.{SpareEnds, HasSpares, IsNoSpare, first_spare_of, last_spare_of, with_spare}
+use Rattle.window_rule.proofs.WordFunctions.{same_place-tells}
 use Rattle.window_rule.proofs.LinkSteps.{places-linked}
 use Rattle.window_rule.proofs.PushSteps.{found_own}
 use Rattle.window_rule.proofs.SparesKept.{AreSpares-same, link-here, link-linked, link-pushed}
@@ -55,6 +57,34 @@ own_with_link (Some own) next e = (own, refl, e)
 all_units : (own : List OwnBlock) → AllByRecursion (λ (_ : OwnBlock). Unit {0}) own
 all_units [] = tt
 all_units (one ∷ more) = (tt, all_units more)
+
+abbrev on_one : ℕ → ℕ → ℕ
+on_one rank other = cond (rank == other) 1 0
+
+-- there is one own block less on the rank of a block that is left out
+fewer_own : (all : List OwnBlock) (block : Place) (own : OwnBlock) → own_of all block ≡ Some own
+    → count_on block.rank (places_of (without_own all block)) + 1 ≡ count_on block.rank
+    (places_of all)
+fewer_own [] block own e = absurd (cc e)
+fewer_own (one ∷ more) block own e =
+    let cons = sum_by-cons (λ (b : Place). on_one b.rank block.rank) one.block (places_of more) in
+    elim (cases_Bool (same_place one.block block)) [
+      | inl same ↦
+          let here : on_one one.block.rank block.rank ≡ 1 = ap (λ b. cond b 1 0)
+          (eq-eqb one.block.rank block.rank
+          (ap (λ (p : Place). p.rank) (same_place-tells one.block block same))) in
+          let left = ap (λ b. count_on block.rank
+          (places_of (cond b more (one ∷ without_own more block)))) same in
+          omega (arith, cons, here, left)
+      | inr differ ↦
+          let rest = fewer_own more block own
+          (sym (ap (λ b. cond b (Some one) (own_of more block)) differ) ∙ e) in
+          let left = ap (λ b. count_on block.rank
+          (places_of (cond b more (one ∷ without_own more block)))) differ in
+          let less = sum_by-cons (λ (b : Place). on_one b.rank block.rank) one.block
+          (places_of (without_own more block)) in
+          omega (arith, cons, left, less, rest)
+    ]
 
 module _ {N : Type 0} (shape : Shape) (block : Place) (head next : ℕ) (before one two : View N)
     (told : Heads shape block.rank before head one) (link : two ≡ linked block next one) where
@@ -145,12 +175,26 @@ module _ {N : Type 0} (shape : Shape) (block : Place) (head next : ℕ) (before 
           let same = ap (times other) (places-linked block next before.private) in
           omega (arith, here, same, found.counted other)
 
+      pub freed_fewer : count_on block.rank (places_of three.private) + 1 ≡ count_on block.rank
+          (places_of before.private)
+      freed_fewer =
+          let all = with_link block next before.private in
+          let known = own_with_link (own_of all block) next (link-here block next before.private own)
+          in
+          let here = ap (λ (v : View N). count_on block.rank (places_of v.private)) freed in
+          let same = ap (count_on block.rank) (places-linked block next before.private) in
+          omega (arith, here, same, fewer_own all block known.0 known.1)
+
+      pub freed_bounds : three.bounds
+          ≡ raised block.rank ((block.rank, tag_of head) ∷ without_bound before.bounds block.rank)
+      freed_bounds = ap (λ (v : View N). v.bounds) freed
+
       pub freed_others : OthersStay block before.private three.private
       freed_others other ne = ap (λ (v : View N). own_next_of v.private other) freed
           ∙ (link-pushed block (with_link block next before.private) other ne
           ∙ link-linked block next before.private other ne)
 
-only_after : {N : Type 0} (one two three : View N) → OnlyBlocks one two → OnlyBlocks two three
+pub only_after : {N : Type 0} (one two three : View N) → OnlyBlocks one two → OnlyBlocks two three
     → OnlyBlocks one three
 only_after one two three first next = next ∙ (λ k. record (first k) {
   private = three.private;
@@ -206,12 +250,6 @@ module _ {N : Type 0} (shape : Shape) (block : Place) (before one two : RankMode
     others = λ other ne. next.others other ne ∙ first.others other ne;
   }
 
-small_first : (shape : Shape) (home : ℕ) (list : List Place)
-    → AllByRecursion (MayBeFree shape home) list → shape.blocks < 2 ^ 20 → (first : ℕ)
-    → first ≡ number_to list → first < 2 ^ 20
-small_first shape home [] h few first is = omega arith
-small_first shape home (block ∷ more) h few first is = omega (arith, h.0.is_block.1)
-
 kept_linked : {N : Type 0} (home : ℕ) (block : Place) (next : ℕ) (before one : View N)
     → IsKeptFor home 64 before one → IsKeptFor home 64 before (linked block next one)
 kept_linked home block next before one (inl worn) = inl (
@@ -225,13 +263,6 @@ kept_linked home block next before one (inr failed) = inr (record {
   on_home = failed.on_home;
   as_many = failed.as_many;
 })
-
-pub first_spare_small : (shape : Shape) (own : List OwnBlock) (ends : SpareEnds) (home : ℕ)
-    → shape.blocks < 2 ^ 20 → home < 64 → HasSpares shape own ends
-    → first_spare_of ends home < 2 ^ 20
-first_spare_small shape own ends home few below h =
-    let was = h.chains home below in
-    small_first shape home was.0 was.1.places few (first_spare_of ends home) was.1.first_is
 
 -- the block is kept once the tries are over
 module _ {N : Type 0} (block : Place) (before one two : RankModel N) (next : ℕ)

@@ -3,3 +3,5 @@ pub mod TriesKept
 pub mod SparesTaken
 pub mod GivesKept
 pub mod Walks
+pub mod Drained
+pub mod ForUse

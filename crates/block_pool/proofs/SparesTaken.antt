@@ -1,5 +1,5 @@
 -- A spare is taken for use, or a block of the free list.
-use Rattle.std.proofs.Common.{◌≡◌, ◌≢◌, ℕ, ◌<◌, List, ◌∷◌, sym, ap, ◌∙◌, subst, inl, inr, arith, Some, Result, Ok, Err, MatchResult}
+use Rattle.std.proofs.Common.{◌≡◌, ◌≢◌, ℕ, ◌<◌, List, ◌∷◌, refl, sym, ap, ◌∙◌, subst, inl, inr, arith, Some, Result, Ok, Err, MatchResult}
 use Rattle.rma_layout.specs.Shape.{Shape}
 use Rattle.rma_layout.specs.Placement.{Place, same_place}
 use Rattle.object_words.specs.Blocks.{on_rank, one_if}
@@ -10,6 +10,7 @@ use Rattle.window_rule.specs.Spares.{SpareEnds, HasSpares, IsNoSpare, first_spar
 use Rattle.window_rule.proofs.LockLemmas.{same_place-refl}
 use Rattle.window_rule.proofs.KeptSpares.{FirstSpare, first_spare_is, popped_is_no_spare}
 use Rattle.fabric.specs.Window.{RankModel}
+use Rattle.block_pool.specs.Moves.{OnlyTaken}
 use Rattle.block_pool.specs.Takes.{Refusal, Takes, TakesSpare, Tries}
 use Rattle.block_pool.specs.declared.refused.PoolRefused.{PoolRefused}
 use Rattle.block_pool.proofs.TriesKept.{noted_unmoved}
@@ -79,3 +80,14 @@ takes_spare shape home block before after same may own used taken = record {
   no_spare = subst (λ s. IsNoSpare s after.view.private after.spares block) (sym same) used;
   from = inr taken;
 }
+
+pub only_taken : {N : Type 0} (home : ℕ) (before after : RankModel N)
+    (answer : Result Place PoolRefused)
+    → MatchResult answer (λ block. Takes home block before after)
+    (λ refused. Refusal home before after refused) → OnlyTaken before.view after.view
+only_taken home before after (Ok block) h = elim h.from [
+  | inl free ↦ subst (OnlyTaken before.view) (sym free.pops.view) refl
+  | inr spare ↦ subst (OnlyTaken before.view) (sym spare.unmoved) refl
+]
+only_taken home before after (Err refused) h =
+    subst (OnlyTaken before.view) (sym h.unmoved) refl

@@ -1,5 +1,5 @@
 -- What one try to take a block tells.
-use Rattle.std.proofs.Common.{◌≡◌, ◌≢◌, ℕ, ◌<◌, ◌==◌, cond, List, [], ◌∷◌, ◌++◌, refl, sym, ap, ◌∙◌, subst, inl, inr, Option, Some, None, eq-eqb}
+use Rattle.std.proofs.Common.{◌≡◌, ◌≢◌, ℕ, ◌<◌, ◌==◌, true, false, cond, List, [], ◌∷◌, ◌++◌, refl, sym, ap, ◌∙◌, subst, inl, inr, Option, Some, None, eq-eqb}
 use Rattle.std.specs.List.{AllByRecursion}
 use Rattle.std.proofs.lemmas.Bool.{cases_Bool}
 use Rattle.rma_layout.specs.Shape.{Shape}
@@ -36,6 +36,12 @@ noted_unmoved (Some note) block next view =
       | inr differ ↦ subst (Unmoved view)
           (sym (ap (λ b. cond b (nexted note next view) view) differ)) refl
     ]
+
+pub noted_bounds : {N : Type 0} (found : Option HeadNote) (block : Place) (next : ℕ)
+    (view : View N) → (noted_next found block next view).bounds ≡ view.bounds
+noted_bounds None block next view = refl
+noted_bounds (Some note) block next view = elim (first_of note.head == block.block) as
+    (λ b. (cond b (nexted note next view) view).bounds ≡ view.bounds) [ true ↦ refl | false ↦ refl ]
 
 noted_seen : {N : Type 0} (found : Option HeadNote) (block : Place) (next : ℕ) (view : View N)
     → ((noted_next found block next view).looks ≡ view.looks)

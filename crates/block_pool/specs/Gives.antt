@@ -12,6 +12,11 @@ use Rattle.block_pool.specs.Moves.{Failed, IsWorn, Looked}
 use Rattle.block_pool.specs.declared.giving.Push.{Push}
 use Rattle.block_pool.specs.declared.giving.Push.TheVariants.{Made, Missed, Refused}
 
+-- the block is the rank's own and no spare, so it is for use
+pub record IsForUse {N : Type 0} (shape : Shape) (rank : RankModel N) (block : Place) : Type 0 where
+  pub own : 0 < times block (places_of rank.view.private)
+  pub no_spare : IsNoSpare shape rank.view.private rank.spares block
+
 -- the block is the rank's own, for use and not locked, and the rank has nothing detached
 pub record MayGive {N : Type 0} (shape : Shape) (rank : RankModel N) (block : Place) : Type 0 where
   pub own : 0 < times block (places_of rank.view.private)

@@ -1,3 +1,4 @@
 pub mod Moves
 pub mod Takes
 pub mod Gives
+pub mod Drains

@@ -17,6 +17,17 @@ module _ {N : Type 0} where
     looks = after.looks;
   }
 
+  -- nothing has changed but the own blocks, what is known of them, and what was noted of heads
+  abbrev pub OnlyTaken : View N → View N → Type 0
+  OnlyTaken before after = after ≡ record before {
+    private = after.private;
+    cells = after.cells;
+    notes = after.notes;
+    bounds = after.bounds;
+    misses = after.misses;
+    looks = after.looks;
+  }
+
   -- the last head of the rank that was loaded is this one. The view had as many blocks of its own
   -- there as before
   pub record Looked (home head : ℕ) (before after : View N) : Type 0 where

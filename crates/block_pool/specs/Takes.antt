@@ -8,7 +8,7 @@ use Rattle.window_rule.specs.View.{View}
 use Rattle.window_rule.specs.Known.{without_cells}
 use Rattle.window_rule.specs.Partition.{places_of, times}
 use Rattle.window_rule.specs.Pool.{MayBeFree}
-use Rattle.window_rule.specs.Spares.{IsNoSpare, first_spare_of, without_spare}
+use Rattle.window_rule.specs.Spares.{IsNoSpare, first_spare_of, own_next_of, without_spare}
 use Rattle.fabric.specs.Window.{RankModel}
 use Rattle.block_pool.specs.Moves.{Failed, FailedLast, IsUnworn, IsWorn, Looked, Unmoved}
 use Rattle.block_pool.specs.declared.refused.PoolRefused.{PoolRefused}
@@ -44,7 +44,9 @@ pub record TakesSpare {N : Type 0} (home : ℕ) (block : Place)
   pub some_spare : first_spare_of before.spares home ≢ 0
   pub block_is : block ≡ on_rank home (first_spare_of before.spares home)
   pub next : ℕ
+  pub link : own_next_of before.view.private block ≡ Some next
   pub spares : after.spares ≡ without_spare home next before.spares
+  pub bounds : after.view.bounds ≡ before.view.bounds
   pub unmoved : Unmoved before.view after.view
 
 -- the block is the rank's own for use

@@ -1,9 +1,9 @@
-ghost use Rattle.std.specs.Prelude.{◌≡◌, ◌<◌, ◌^◌, ◌⊎◌};
-ghost use Rattle.rma_layout.specs.Placement.{IsBlock};
+ghost use Rattle.std.specs.Prelude.{◌≡◌, ◌≢◌, ◌<◌, ◌^◌, ◌⊎◌, Some};
+ghost use Rattle.rma_layout.specs.Placement.{IsBlock, Place};
 ghost use Rattle.window_rule.specs.Spares.{HasSpares, first_spare_of, with_spare};
-ghost use Rattle.window_rule.specs.Pool.{MayBeFree, linked};
+ghost use Rattle.window_rule.specs.Pool.{MayBeFree, linked, own_next_of};
 ghost use Rattle.window_rule.specs.Trails.{Follows};
-ghost use Rattle.block_pool.specs.Gives.{Frees, Keeps, MayGive, Pushes};
+ghost use Rattle.block_pool.specs.Gives.{Frees, IsForUse, Keeps, MayGive, Pushes};
 
 use crate::MOST_EXCHANGES;
 use fabric::{Rank, Window};
@@ -25,13 +25,15 @@ enum Push {
 /// Gives a block of its own back to the free list of its rank.
 ///
 /// The block is no spare, and the rank has no lock on it and nothing detached. Afterwards it is free; or it is a spare of
-/// this rank, where 64 exchanges failed or the head has the last tag. No memory is taken.
+/// this rank, where 64 exchanges failed or the head has the last tag. Other own blocks that are no spares stay so. No memory
+/// is taken.
 pub fn give<L: Law>(window: &Window<L>, rank: &mut Rank<L>, block: DPtr)
     requires window { rank.old.window ≡ window.now }
     requires block { IsBlock window.now.shape block }
     requires may { MayGive window.now.shape rank.old block }
     ensures window { rank.new.window ≡ rank.old.window }
     ensures given { Frees block rank.old rank.new ⊎ Keeps block rank.old rank.new }
+    ensures stay { (other : Place) → other ≢ block → IsForUse window.now.shape rank.old other → IsForUse window.now.shape rank.new other }
     ensures follows { Follows rank.old.view rank.new.view }
 {
     window.geometry().keeps_ranges();
@@ -58,6 +60,7 @@ fn keep<L: Law>(window: &Window<L>, rank: &mut Rank<L>, block: DPtr, spare: u64)
     ensures window { rank.new.window ≡ rank.old.window }
     ensures spares { rank.new.spares ≡ with_spare block rank.old.spares }
     ensures view { rank.new.view ≡ linked block spare rank.old.view }
+    ensures link { own_next_of rank.new.view.private block ≡ Some spare }
     ensures follows { Follows rank.old.view rank.new.view }
 {
     rank.link(window, block, spare);

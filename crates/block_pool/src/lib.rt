@@ -2,11 +2,13 @@
 #![tactic(auto)]
 
 mod counting;
+mod draining;
 mod giving;
 mod refused;
 mod taking;
 
 pub use counting::free_count;
+pub use draining::drain_spares;
 pub use giving::give;
 pub use refused::PoolRefused;
 pub use taking::take;

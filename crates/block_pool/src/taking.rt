@@ -1,9 +1,12 @@
 ghost use Rattle.std.specs.Prelude.{◌≡◌, ◌≢◌, ◌<◌, false, MatchResult};
+ghost use Rattle.rma_layout.specs.Placement.{Place};
 ghost use Rattle.window_rule.specs.Partition.{places_of, times};
 ghost use Rattle.window_rule.specs.RightsHold.{IsAlone};
 ghost use Rattle.window_rule.specs.Spares.{IsNoSpare, first_spare_of};
 ghost use Rattle.window_rule.specs.Trails.{Follows};
 ghost use Rattle.window_rule.specs.Pool.{MayBeFree};
+ghost use Rattle.block_pool.specs.Gives.{IsForUse};
+ghost use Rattle.block_pool.specs.Moves.{OnlyTaken};
 ghost use Rattle.block_pool.specs.Takes as takes;
 ghost use Rattle.block_pool.specs.Takes.{Refusal, Takes, TakesSpare, Tries};
 
@@ -16,7 +19,7 @@ use rma_layout::DPtr;
 
 /// Takes a block of a home rank: a spare if the rank has one, else the first block of the free list.
 ///
-/// The block is then the rank's own, and no spare. A refusal says why there was none, and no block has moved; a rank that
+/// The block is then the rank's own, and no spare. Other own blocks that are no spares stay so. A refusal says why there was none, and no block has moved; a rank that
 /// is alone never gets `PoolBusy`. No memory is taken.
 pub fn take<L: Law>(window: &Window<L>, rank: &mut Rank<L>, home: u16) -> Result<DPtr, PoolRefused>
     requires window { rank.old.window ≡ window.now }
@@ -25,6 +28,8 @@ pub fn take<L: Law>(window: &Window<L>, rank: &mut Rank<L>, home: u16) -> Result
     ensures taken { MatchResult result (λ block. Takes home block rank.old rank.new)
         (λ refused. Refusal home rank.old rank.new refused) }
     ensures alone { IsAlone window.now.shape rank.old.view → takes.is_busy result ≡ false }
+    ensures only { OnlyTaken rank.old.view rank.new.view }
+    ensures stay { (other : Place) → IsForUse window.now.shape rank.old other → IsForUse window.now.shape rank.new other }
     ensures follows { Follows rank.old.view rank.new.view }
 {
     window.geometry().keeps_ranges();

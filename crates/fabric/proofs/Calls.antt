@@ -1,5 +1,5 @@
 -- What a call of a step on one word owes to the table, from what the window and the rank are.
-use Rattle.std.proofs.Common.{◌≡◌, ℕ, ◌<◌, [], set, sym, ap, refl, ◌∙◌, subst, arith, length-set, slice_index}
+use Rattle.std.proofs.Common.{◌≡◌, ℕ, ◌<◌, Bool, List, [], set, sym, ap, refl, ◌∙◌, subst, arith, length-set, slice_index}
 use Rattle.atomic_table.specs.Table.{Me, Allows, keeps}
 use Rattle.atomic_table.specs.Seated.{TableId}
 use Rattle.object_words.specs.Entries.{Entry}
@@ -15,7 +15,7 @@ use Rattle.window_rule.specs.Permits.{Permits}
 use Rattle.window_rule.specs.Steps.{Tells}
 use Rattle.window_rule.specs.Spares.{SpareEnds}
 use Rattle.window_rule.specs.Trails.{SparesStay}
-use Rattle.fabric.specs.Window.{WindowModel, RankModel, IsSized, IsRank}
+use Rattle.fabric.specs.Window.{WindowModel, RankModel, AreRights, IsSized, IsRank}
 use Rattle.window_rule.proofs.WordFunctions.{words_in-set, words_in-word}
 
 -- a rank as its contract sees it
@@ -89,12 +89,12 @@ module _ {N : Type 0} (fits : Shape → Entry N → Type 0) (slots id : ℕ) (me
       )
 
 -- after a step that keeps the spares, a rank is one still
-pub rank_keeps : {N : Type 0} (me after : Me (Unit {0}) (View N)) (seat : TableId) (shape : Shape)
+pub rank_keeps : {N : Type 0} {held : List Bool} (me after : Me (Unit {0}) (View N)) (seat : TableId) (shape : Shape)
     (ends : SpareEnds) (window : WindowModel) (rank : RankModel N) (Told : View N → Type 0)
-    → IsSeen me seat shape ends rank → rank.window ≡ window → IsRank shape me ends
+    → IsSeen me seat shape ends rank → rank.window ≡ window → IsRank shape me ends held
     → Told me.0 × (after.0.rights ≡ me.0.rights) × (after.1 ≡ me.1)
-    → (Told rank.view → SparesStay window.shape rank.spares rank.view after.0) → IsRank shape after ends
-rank_keeps {N} me after seat shape ends window rank Told rank_is of_window was told stay =
+    → (Told rank.view → SparesStay window.shape rank.spares rank.view after.0) → IsRank shape after ends held
+rank_keeps {N} {held} me after seat shape ends window rank Told rank_is of_window was told stay =
     let shape_is : shape ≡ window.shape = ap (λ (r : RankModel N). r.window.shape) rank_is
     ∙ ap (λ (w : WindowModel). w.shape) of_window in
     let ends_is : ends ≡ rank.spares = ap (λ (r : RankModel N). r.spares) rank_is in
@@ -107,5 +107,25 @@ rank_keeps {N} me after seat shape ends window rank Told rank_is of_window was t
     record {
       slots = told.2 ∙ was.slots;
       live = λ none. was.live (sym told.1 ∙ none);
+      rights = subst (AreRights held) (sym told.1) was.rights;
       has = stay_here was.has;
     }
+
+-- the same of a seat that is no rank's
+pub seat_call : {N : Type 0} (fits : Shape → Entry N → Type 0) (slots id : ℕ)
+    (me : Me (Unit {0}) (View N)) (f : ℕ → ℕ) (Told : View N → ℕ → View N → Type 0) (word : Word)
+    (table seat : TableId) (key geometry : Shape) (window : WindowModel) (number : ℕ)
+    → (let seen : WindowModel = record { id = table; shape = geometry } in seen ≡ window)
+    → IsSized table key geometry → ¬ me.0.rights ≡ [] → seat ≡ window.id
+    → IsWord window.shape word → number ≡ number_of window.shape word
+    → Permits fits window.shape word f me.0 (Told me.0)
+    → Asked fits slots id me f Told table seat key number
+seat_call {N} fits slots id me f Told word table seat key geometry window number window_is sized
+    live of_window is_word number_is permits =
+    let ends : SpareEnds = record { firsts = []; lasts = [] } in
+    let rank : RankModel N =
+    record { window = record { id = seat; shape = window.shape }; view = me.0; spares = ends } in
+    step_call fits slots id me f Told word table seat key geometry window.shape ends window rank
+    number window_is sized refl live
+    (λ i. record { id = of_window i; shape = window.shape })
+    is_word number_is permits

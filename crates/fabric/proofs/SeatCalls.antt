@@ -1,5 +1,5 @@
 -- What a split and a join owe to the table, from what the window and the ranks are.
-use Rattle.std.proofs.Common.{◌≡◌, ◌≢◌, ℕ, ◌<◌, [], sym, ap, ◌∙◌, subst, arith}
+use Rattle.std.proofs.Common.{◌≡◌, ◌≢◌, ℕ, ◌<◌, Bool, false, List, [], length, get_or, set, sym, ap, ◌∙◌, subst, arith}
 use Rattle.atomic_table.specs.Table.{Me, Splits, Joins}
 use Rattle.atomic_table.specs.Seated.{TableId}
 use Rattle.object_words.specs.Entries.{Entry}
@@ -10,7 +10,8 @@ use Rattle.window_rule.specs.View.{View, spent}
 use Rattle.window_rule.specs.Splits.{MaySplit, IsIdle, remaining, parted, joined}
 use Rattle.window_rule.specs.Spares.{SpareEnds, HasSpares}
 use Rattle.window_rule.specs.Lawful.{IsRuled}
-use Rattle.fabric.specs.Window.{WindowModel, RankModel, IsSized, IsRank}
+use Rattle.fabric.specs.Window.{WindowModel, RankModel, AreRights, IsSized, IsRank, any}
+use Rattle.fabric.proofs.RightsKept.{held_below, rights_together, rights_without}
 use Rattle.window_rule.proofs.SplitSteps.{split_allowed}
 use Rattle.window_rule.proofs.JoinSteps.{first_none, join_allowed}
 use Rattle.window_rule.proofs.KeptSpares.{spares_appended}
@@ -61,23 +62,35 @@ module _ {N : Type 0} (fits : Shape → Entry N → Type 0) (id : ℕ) (view : V
   )
 
 -- after a split a rank is one still, with the spares that it had
-pub split_keeps : {N : Type 0} (me after : Me (Unit {0}) (View N)) (shape : Shape)
-    (ends : SpareEnds) (picked_right picked : ℕ)
-    → MaySplit me.0 picked_right picked → IsRank shape me ends
-    → after ≡ (remaining picked_right picked me.0, me.1) → IsRank shape after ends
-split_keeps {N} me after shape ends picked_right picked may was is = record {
-  slots = ap (λ (m : Me (Unit {0}) (View N)). m.1) is ∙ was.slots;
-  live = λ none. may.another (sym (ap (λ (m : Me (Unit {0}) (View N)). m.0.rights) is) ∙ none);
-  has = subst (λ (m : Me (Unit {0}) (View N)). HasSpares shape m.0.private ends) (sym is) was.has;
-}
+pub split_keeps : {N : Type 0} {held : List Bool} (me after : Me (Unit {0}) (View N))
+    (shape : Shape) (ends : SpareEnds) (right picked_right picked : ℕ) → picked_right ≡ right
+    → MaySplit me.0 picked_right picked → IsRank shape me ends held
+    → after ≡ (remaining picked_right picked me.0, me.1)
+    → IsRank shape after ends (set held right false)
+split_keeps {N} {held} me after shape ends right picked_right picked same may was is =
+    let below : picked_right < 64 = held_below held me.0.rights picked_right was.rights may.held in
+    record {
+      slots = ap (λ (m : Me (Unit {0}) (View N)). m.1) is ∙ was.slots;
+      live = λ none. may.another (sym (ap (λ (m : Me (Unit {0}) (View N)). m.0.rights) is) ∙ none);
+      rights = subst (λ r. AreRights (set held r false) after.0.rights) same
+          (subst (AreRights (set held picked_right false))
+          (sym (ap (λ (m : Me (Unit {0}) (View N)). m.0.rights) is))
+          (rights_without held me.0.rights picked_right below was.rights));
+      has = subst (λ (m : Me (Unit {0}) (View N)). HasSpares shape m.0.private ends) (sym is) was.has;
+    }
 
-pub join_keeps : {N : Type 0} (me after : Me (Unit {0}) (View N)) (other : View N) (shape : Shape)
-    (ends : SpareEnds) → IsRank shape me ends → after ≡ (joined me.0 other, me.1)
-    → IsRank shape after ends
-join_keeps {N} me after other shape ends was is = record {
+pub join_keeps : {N : Type 0} {held : List Bool} (me after : Me (Unit {0}) (View N))
+    (other : View N) (others both : List Bool) (shape : Shape) (ends : SpareEnds)
+    → length both ≡ 64
+    → ((rank : ℕ) → get_or both rank false ≡ any (get_or held rank false) (get_or others rank false))
+    → AreRights others other.rights → IsRank shape me ends held
+    → after ≡ (joined me.0 other, me.1) → IsRank shape after ends both
+join_keeps {N} {held} me after other others both shape ends sized each theirs was is = record {
   slots = ap (λ (m : Me (Unit {0}) (View N)). m.1) is ∙ was.slots;
   live = λ none. was.live
       (first_none _ _ (sym (ap (λ (m : Me (Unit {0}) (View N)). m.0.rights) is) ∙ none));
+  rights = subst (AreRights both) (sym (ap (λ (m : Me (Unit {0}) (View N)). m.0.rights) is))
+      (rights_together held others both me.0.rights other.rights sized each was.rights theirs);
   has = subst (λ (m : Me (Unit {0}) (View N)). HasSpares shape m.0.private ends) (sym is)
       (spares_appended shape me.0.private ends was.has other.private);
 }

@@ -5,6 +5,7 @@ ghost use Rattle.object_words.specs.Contents.{content_of};
 ghost use Rattle.object_words.specs.Entries.{store_after};
 ghost use Rattle.window_rule.specs.Trails.{Follows};
 ghost use Rattle.window_rule.specs.Pairs.{IsAtRest, IsNext, pair_entry, pair_of};
+ghost use Rattle.fabric.specs.MarkedPairs.{HasMarked};
 
 use crate::rank::{Enters, Rank};
 use crate::window::Window;
@@ -61,6 +62,31 @@ pub fn write_pair<L: Law, C: Carries<L>>(
         rank.writer_leave(window);
         return Err(word);
     }
+    let number = write_marked(rank, window, o, first, second, note);
+    Ok(number)
+}
+
+/// Writes two words into a reserved object that it has marked as a writer, having locked nothing else. They are one entry
+/// of the history, whose number is the answer. It leaves the mark and the gate then.
+pub fn write_marked<L: Law, C: Carries<L>>(
+    rank: &mut Rank<L>,
+    window: &Window<L>,
+    o: DPtr,
+    first: u64,
+    second: u64,
+    note: &C,
+) -> u64
+    requires window { rank.old.window ≡ window.now }
+    requires object { IsBlock window.now.shape o }
+    requires reserved { IsReserved window.now.shape o.block }
+    requires wide { 4 < window.now.shape.words }
+    requires begun { HasMarked o rank.old.view }
+    requires allowed { 0 < rank.old.view.allowance }
+    requires fitting { L.fits window.now.shape (pair_entry rank.old.view o first second (C.note note.now)) }
+    ensures window { rank.new.window ≡ rank.old.window }
+    ensures rest { IsAtRest rank.new.view }
+    ensures entry { IsNext (pair_entry rank.old.view o first second (C.note note.now)) rank.old.view rank.new.view result }
+{
     rank.stamp_up(window, o);
     rank.detach(window, o);
     rank.put(window, o, 0, 0);
@@ -77,7 +103,7 @@ pub fn write_pair<L: Law, C: Carries<L>>(
     rank.stamp_up(window, o);
     rank.mark_leave(window, o);
     rank.writer_leave(window);
-    Ok(number)
+    number
 }
 
 /// Reads an object that has two words: as the history gives them, of which the rank has then seen all.

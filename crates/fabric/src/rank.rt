@@ -1,5 +1,6 @@
 ghost use Rattle.std.specs.Prelude.{◌≡◌, ◌≢◌, [], IfOk};
 ghost use Rattle.window_rule.specs.Spares.{AreNone, HasNone};
+ghost use Rattle.fabric.specs.Window.{AreRights};
 
 use crate::view::View;
 use atomic_table::Seat;
@@ -11,15 +12,18 @@ use std::marker::Model;
 
 mod commits;
 mod gate;
+mod joins;
 mod locks;
 mod objects;
 mod pool;
+mod rights;
 mod spares;
 mod splits;
 mod stamps;
 mod words;
 
 pub use commits::Enters;
+pub(crate) use rights::first_rights;
 
 /// One of those who share a window. It stands for one or more of the window's ranks, and makes all its steps itself: no
 /// other rank's step changes what it knows.
@@ -30,6 +34,7 @@ pub use commits::Enters;
 pub struct Rank<L: Law> {
     seat: Seat<(), View<L::Note>>,
     geometry: Geometry,
+    rights: Vec<bool>,
     firsts: Vec<u64>,
     lasts: Vec<u64>,
 }
@@ -46,7 +51,7 @@ impl<L: Law> Model for Rank<L> {
     } };
 
     ghost invariant = { λ rank. IsRank rank.geometry rank.seat.me
-        (record { firsts = rank.firsts.items; lasts = rank.lasts.items }) };
+        (record { firsts = rank.firsts.items; lasts = rank.lasts.items }) rank.rights.items };
 }
 
 /// How many ranks a window may have.
@@ -64,12 +69,13 @@ impl<L: Law> Rank<L> {
     pub(crate) fn seated(
         seat: Seat<(), View<L::Note>>,
         geometry: Geometry,
+        rights: Vec<bool>,
         firsts: Vec<u64>,
         lasts: Vec<u64>,
     ) -> Rank<L>
         requires slots { seat.me.1 ≡ [] }
         requires live { seat.me.0.rights ≢ [] }
-        requires private { seat.me.0.private ≡ [] }
+        requires rights { AreRights rights.items seat.me.0.rights }
         requires firsts { AreNone firsts.items }
         requires lasts { AreNone lasts.items }
         ensures window { result.window ≡ record { id = seat.table_id; shape = geometry } }
@@ -79,6 +85,7 @@ impl<L: Law> Rank<L> {
         Rank {
             seat,
             geometry,
+            rights,
             firsts,
             lasts,
         }

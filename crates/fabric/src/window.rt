@@ -1,13 +1,13 @@
-ghost use Rattle.std.specs.Prelude.{◌≡◌, ◌<◌, ℕ, Some, IfOk};
+ghost use Rattle.std.specs.Prelude.{◌≡◌, ◌<◌, ◌^◌, IfOk};
 ghost use Rattle.rma_layout.specs.Words.{IsWord, number_of};
 ghost use Rattle.window_rule.specs.RightsHold.{IsAlone};
-ghost use Rattle.window_rule.specs.Opening.{first_note, first_view};
-ghost use Rattle.window_rule.specs.Pool.{note_of};
+ghost use Rattle.window_rule.specs.Opening.{first_view};
 ghost use Rattle.window_rule.specs.Spares.{HasNone};
+ghost use Rattle.fabric.specs.Window.{HasLists};
 
 use crate::opening::first_words;
-use crate::rank::{Rank, no_spares};
-use crate::rule::Lawful;
+use crate::rank::{Rank, first_rights, no_spares};
+use crate::rule::{Lawful, Opening};
 use crate::view::View;
 use atomic_table::Table;
 use gdi_kinds::NoMemory;
@@ -23,7 +23,7 @@ use std::marker::Model;
 /// A contract sees which window it is, as `id`, and its shape.
 #[derive(Drop)]
 pub struct Window<L: Law> {
-    pub(crate) table: Table<(), View<L::Note>, Geometry, Lawful<L>, Global>,
+    pub(crate) table: Table<(), View<L::Note>, Opening, Lawful<L>, Global>,
     geometry: Geometry,
 }
 
@@ -34,7 +34,7 @@ impl<L: Law> Model for Window<L> {
 
     ghost view = { λ window. record { id = window.table.shared.table_id; shape = window.geometry } };
 
-    ghost invariant = { λ window. IsSized window.table.shared.table_id window.table.shared.key window.geometry };
+    ghost invariant = { λ window. IsSized window.table.shared.table_id window.table.shared.key.geometry window.geometry };
 }
 
 impl<L: Law> Window<L> {
@@ -46,15 +46,33 @@ impl<L: Law> Window<L> {
     pub fn new(alloc: Global, geometry: Geometry) -> Result<(Window<L>, Rank<L>), NoMemory>
         ensures shape { IfOk result (λ made. made.0.shape ≡ geometry) }
         ensures together { IfOk result (λ made. made.1.window ≡ made.0) }
-        ensures view { IfOk result (λ made. made.1.view ≡ first_view geometry) }
-        ensures lists { IfOk result (λ made. (rank : ℕ) → rank < geometry.ranks → note_of made.1.view.notes rank ≡ Some (first_note geometry rank)) }
+        ensures view { IfOk result (λ made. made.1.view ≡ first_view geometry 0) }
+        ensures lists { IfOk result (λ made. HasLists geometry 0 made.1.view) }
+        ensures spares { IfOk result (λ made. HasNone made.1.spares) }
+        ensures alone { IfOk result (λ made. IsAlone geometry made.1.view) }
+    {
+        Self::with_tags(alloc, geometry, 0)
+    }
+
+    /// A new window as by `new`, in which the head of every rank has this tag. So what happens at the last tag can be seen.
+    pub fn with_tags(
+        alloc: Global,
+        geometry: Geometry,
+        tag: u64,
+    ) -> Result<(Window<L>, Rank<L>), NoMemory>
+        requires { tag < 2 ^ 44 }
+        ensures shape { IfOk result (λ made. made.0.shape ≡ geometry) }
+        ensures together { IfOk result (λ made. made.1.window ≡ made.0) }
+        ensures view { IfOk result (λ made. made.1.view ≡ first_view geometry tag) }
+        ensures lists { IfOk result (λ made. HasLists geometry tag made.1.view) }
         ensures spares { IfOk result (λ made. HasNone made.1.spares) }
         ensures alone { IfOk result (λ made. IsAlone geometry made.1.view) }
     {
         geometry.keeps_ranges();
-        let words = first_words(alloc, &geometry)?;
-        let (table, seat) = Table::of_words(alloc, words.as_slice(), &geometry)?;
-        let rank = Rank::seated(seat, geometry, no_spares(alloc)?, no_spares(alloc)?);
+        let words = first_words(alloc, &geometry, tag)?;
+        let (table, seat) = Table::of_words(alloc, words.as_slice(), &Opening { geometry, tag })?;
+        let rights = first_rights(alloc, geometry.ranks())?;
+        let rank = Rank::seated(seat, geometry, rights, no_spares(alloc)?, no_spares(alloc)?);
         Ok((Window { table, geometry }, rank))
     }
 

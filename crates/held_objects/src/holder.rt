@@ -1,11 +1,12 @@
 ghost use Rattle.std.specs.Prelude.{◌≡◌, ◌≢◌, ℕ, List, IfOk, MatchOption};
 ghost use Rattle.holder_codec.specs.Bucket.{IsBucketHolder, bucket_words};
+ghost use Rattle.holder_codec.specs.EdgeObject.{IsEdgeHolder, edge_object_words};
 ghost use Rattle.holder_codec.specs.Index.{IsIndexHolder, index_words};
 ghost use Rattle.holder_codec.specs.Meta.{IsMetaHolder, meta_words};
 ghost use Rattle.holder_codec.specs.Vertex.{IsVertexHolder, vertex_words};
 
 use gdi_kinds::NoMemory;
-use holder_codec::{BucketHolder, IndexHolder, MetaHolder, VertexHolder};
+use holder_codec::{BucketHolder, EdgeHolder, IndexHolder, MetaHolder, VertexHolder};
 use object_words::Words;
 use std::alloc::Global;
 
@@ -78,5 +79,19 @@ impl Holder for IndexHolder {
 
     fn read_words(alloc: Global, words: &Words) -> Result<Option<IndexHolder>, NoMemory> {
         IndexHolder::read(alloc, words)
+    }
+}
+
+impl Holder for EdgeHolder {
+    ghost IsHolder = { IsEdgeHolder };
+
+    ghost words_of = { edge_object_words };
+
+    fn write_words(&self, alloc: Global) -> Result<Words, NoMemory> {
+        self.write(alloc)
+    }
+
+    fn read_words(alloc: Global, words: &Words) -> Result<Option<EdgeHolder>, NoMemory> {
+        EdgeHolder::read(alloc, words)
     }
 }

@@ -133,7 +133,7 @@ values_rise n false k (v ∷ w ∷ vs) each single = absurd (omega (arith, singl
 lesser_before : (n : ℕ) (one other : HeldProp) → one.number ≡ n → n < other.number → is_prop_before one other ≡ true
 lesser_before n one other is below = or_left _ _ (lt-ltb one.number other.number (omega arith))
 
-values_above : (types : List PropType) (n : ℕ) (ps : Props) → below_all nat_cmp n ps ≡ true → AllByRecursion (λ prop. n < prop.number) (held_props types ps)
+pub values_above : (types : List PropType) (n : ℕ) (ps : Props) → below_all nat_cmp n ps ≡ true → AllByRecursion (λ prop. n < prop.number) (held_props types ps)
 values_above types n [] below = tt
 values_above types n (e ∷ es) below =
     let parts = and_parts (is_lt (nat_cmp n e.0)) (below_all nat_cmp n es) below in

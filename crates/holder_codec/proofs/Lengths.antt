@@ -10,11 +10,13 @@ use Rattle.graph_model.specs.Sizes.{words_of_value, words_of_bytes}
 use Rattle.holder_codec.specs.declared.bucket_holder.BucketHolder.{BucketHolder}
 use Rattle.holder_codec.specs.declared.held_prop.HeldProp.{HeldProp}
 use Rattle.holder_codec.specs.declared.edge_record.EdgeRecord.{EdgeRecord}
+use Rattle.holder_codec.specs.declared.edge_holder.EdgeHolder.{EdgeHolder}
 use Rattle.holder_codec.specs.declared.vertex_holder.VertexHolder.{VertexHolder}
 use Rattle.holder_codec.specs.Values.{value_words, prop_words}
 use Rattle.holder_codec.specs.Edges.{record_words}
 use Rattle.holder_codec.specs.Bucket.{IsBucketHolder, bucket_words}
 use Rattle.holder_codec.specs.Vertex.{IsVertexHolder, label_words, vertex_words}
+use Rattle.holder_codec.specs.EdgeObject.{edge_object_words}
 use Rattle.holder_codec.proofs.ReadLaws.{some_is}
 use Rattle.holder_codec.proofs.TextLaws.{length-words_from}
 use Rattle.holder_codec.proofs.Buckets.{bucket_again}
@@ -51,3 +53,9 @@ length-vertex_words vertex =
     let ps = flat_map prop_words vertex.props in
     let es = flat_map record_words vertex.edges in
     omega (arith, length-append ls (ps ++ es), length-append ps es, length-label_words vertex.labels, length-prop_words vertex.props, length-record_words vertex.edges)
+
+pub length-edge_object_words : (edge : EdgeHolder) → length (edge_object_words edge) ≡ 5 + length edge.labels + sum_by (λ prop. 2 + words_of_value prop.value) edge.props
+length-edge_object_words edge =
+    let ls = flat_map label_words edge.labels in
+    let ps = flat_map prop_words edge.props in
+    omega (arith, length-append ls ps, length-label_words edge.labels, length-prop_words edge.props)

@@ -4,6 +4,7 @@ pub mod TextLaws
 pub mod ValueLaws
 pub mod EdgeLaws
 pub mod VertexLaws
+pub mod EdgeObjectLaws
 pub mod Lengths
 pub mod Buckets
 pub mod Maps

@@ -12,12 +12,12 @@ use Rattle.std.proofs.lemmas.Map.Text.{is_eq-slice_cmp}
 use Rattle.std.specs.Ordering.{nat_cmp, is_eq}
 use Rattle.std.specs.Cmp.Lexicographic.{slice_cmp}
 use Rattle.gdi_kinds.specs.Names.{is_name, IsName}
-use Rattle.graph_model.specs.Graph.{Name, PropType}
+use Rattle.graph_model.specs.Graph.{Name}
 use Rattle.graph_model.specs.WellFormed.{AreNames}
 use Rattle.holder_codec.specs.declared.type_line.TypeLine.{TypeLine}
 use Rattle.holder_codec.specs.declared.meta_holder.MetaHolder.{MetaHolder}
 use Rattle.holder_codec.specs.Values.{kind_code}
-use Rattle.holder_codec.specs.Holders.{name_words, type_words, names_words}
+use Rattle.holder_codec.specs.Holders.{name_words, type_words}
 use Rattle.holder_codec.specs.Meta.{type_of, line_words, meta_words, TypeFits, IsMetaHolder}
 use Rattle.holder_codec.specs.Reading.{IsWords, ◌>>=◌, number_at, bytes_at, bool_of, kind_of_code, many_at, name_at, type_at, are_distinct, stand_once, meta_of_words}
 use Rattle.holder_codec.proofs.ReadLaws.{IsWords-rest, bind_some, bind_then, guard_some, some_is, Reads, one_word, numbers, many_takes, many_again}

@@ -4,6 +4,7 @@ pub mod Values
 pub mod Edges
 pub mod Bucket
 pub mod Vertex
+pub mod EdgeObject
 pub mod Holders
 pub mod Index
 pub mod Meta

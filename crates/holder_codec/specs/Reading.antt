@@ -22,6 +22,7 @@ use Rattle.holder_codec.specs.declared.edge_form.EdgeForm.TheVariants.{Plain, La
 use Rattle.holder_codec.specs.declared.edge_record.EdgeRecord.{EdgeRecord}
 use Rattle.holder_codec.specs.declared.held_prop.HeldProp.{HeldProp}
 use Rattle.holder_codec.specs.declared.vertex_holder.VertexHolder.{VertexHolder}
+use Rattle.holder_codec.specs.declared.edge_holder.EdgeHolder.{EdgeHolder}
 use Rattle.holder_codec.specs.declared.unread.Unread.{Unread}
 use Rattle.holder_codec.specs.declared.unread.Unread.TheVariants.{NotSpelled, NoMemory}
 use Rattle.holder_codec.specs.declared.index_entry.IndexEntry.{IndexEntry}
@@ -219,6 +220,17 @@ vertex_of_words words = do
   props ← rising_at prop_at is_prop_before prop_count.0 labels.1
   edges ← rising_at record_at is_record_before edge_count.0 props.1
   if length edges.1 == 0 then Some (record { id = id.0; next = next.0; labels = labels.0; props = props.0; edges = edges.0 }) else None
+
+unfoldable pub edge_of_words : List ℕ → Option EdgeHolder
+edge_of_words words = do
+  source ← number_at words
+  ordinal ← number_at source.1
+  target ← number_at ordinal.1
+  label_count ← number_at target.1
+  prop_count ← number_at label_count.1
+  labels ← rising_at label_at nat_lt label_count.0 prop_count.1
+  props ← rising_at prop_at is_prop_before prop_count.0 labels.1
+  if length props.1 == 0 then Some (record { source = source.0; ordinal = ordinal.0; target = target.0; labels = labels.0; props = props.0 }) else None
 
 unfoldable pub bucket_of_words : List ℕ → Option BucketHolder
 bucket_of_words words = do

@@ -9,26 +9,32 @@ ghost use Rattle.graph_model.specs.Graph.{PropType, Graph, Vertex, Edge, EdgeKey
 ghost use Rattle.graph_model.specs.Sizes.{words_of_value, words_of_vertex, words_of_edge, words_of_bucket, words_of_slot, words_of_names};
 ghost use Rattle.graph_model.specs.WellFormed.{IsWellFormed};
 ghost use Rattle.holder_codec.specs.declared.bucket_holder.BucketHolder.{BucketHolder};
+ghost use Rattle.holder_codec.specs.declared.edge_holder.EdgeHolder.{EdgeHolder};
 ghost use Rattle.holder_codec.specs.declared.vertex_holder.VertexHolder.{VertexHolder};
 ghost use Rattle.holder_codec.specs.Bucket.{IsBucketHolder, bucket_words};
 ghost use Rattle.holder_codec.specs.Vertex.{IsVertexHolder, vertex_words};
+ghost use Rattle.holder_codec.specs.EdgeObject.{IsEdgeHolder, edge_object_words};
 ghost use Rattle.holder_codec.specs.Holders.{edge_words, names_words};
 ghost use Rattle.holder_codec.specs.Represents.{VertexObjects, EdgeObjects, BucketsLead, Represents, entries_of, holder_of, pairs_of_label};
 
-/// No two buckets have the same words, and no two vertices.
+/// No two buckets have the same words, no two vertices, and no two edges.
 pub fn spellings_differ()
     ensures buckets { (one other : BucketHolder) → IsBucketHolder one → IsBucketHolder other →
         bucket_words one ≡ bucket_words other → one ≡ other }
     ensures vertices { (one other : VertexHolder) → IsVertexHolder one → IsVertexHolder other →
         vertex_words one ≡ vertex_words other → one ≡ other }
+    ensures edges { (one other : EdgeHolder) → IsEdgeHolder one → IsEdgeHolder other →
+        edge_object_words one ≡ edge_object_words other → one ≡ other }
 {}
 
-/// How many words a bucket has, and a vertex: a property has 2 words before those of its value.
+/// How many words a bucket has, a vertex, and a heavy edge's object: a property has 2 words before those of its value.
 pub fn words_are_counted()
     ensures bucket { (bucket : BucketHolder) → length (bucket_words bucket) ≡ 2 * length bucket.entries }
     ensures vertex { (vertex : VertexHolder) → length (vertex_words vertex) ≡
         5 + length vertex.labels + sum_by (λ prop. 2 + words_of_value prop.value) vertex.props
         + 5 * length vertex.edges }
+    ensures edge { (edge : EdgeHolder) → length (edge_object_words edge) ≡
+        5 + length edge.labels + sum_by (λ prop. 2 + words_of_value prop.value) edge.props }
 {}
 
 /// A store without a word represents the graph without a vertex.

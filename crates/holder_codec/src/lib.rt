@@ -1,9 +1,11 @@
-//! Names, vertices, buckets and objects of the index as the words of an object, and back. Each holder has one spelling.
+//! Names, vertices, heavy edges, buckets and objects of the index as the words of an object, and back. Each holder has one
+//! spelling.
 #![tactic(auto)]
 
 mod bucket_entry;
 mod bucket_holder;
 mod edge_form;
+mod edge_holder;
 mod edge_record;
 mod held_prop;
 mod index_entry;
@@ -26,6 +28,7 @@ mod words;
 pub use bucket_entry::{BucketEntry, BucketList};
 pub use bucket_holder::BucketHolder;
 pub use edge_form::EdgeForm;
+pub use edge_holder::EdgeHolder;
 pub use edge_record::{EdgeRecord, EdgeRecords};
 pub use held_prop::{HeldProp, HeldProps};
 pub use index_entry::{IndexEntry, IndexList};

@@ -1,5 +1,5 @@
 -- What a transaction finds in a slot, and what the index has once a slot is written.
-use Rattle.std.proofs.Common.{◌≡◌, ◌≢◌, ℕ, ◌^◌, ◌<◌, ◌≤◌, ◌+◌, ◌*◌, Bool, true, false, cond, not, List, length, Option, Some, None, IsSome, refl, sym, ap, subst, ◌∙◌, arith}
+use Rattle.std.proofs.Common.{◌≡◌, ◌≢◌, ℕ, ◌≤◌, ◌+◌, ◌*◌, Bool, true, false, cond, not, List, length, Some, None, IsSome, refl, sym, ap, subst, ◌∙◌, arith}
 use Rattle.std.specs.Prelude.{is_some}
 use Rattle.std.specs.List.{AllByRecursion}
 use Rattle.std.specs.Ordering.{eq_by_cmp}
@@ -27,7 +27,7 @@ use Rattle.held_objects.specs.Held.{IsSpelled, FindsHolder}
 use Rattle.held_objects.proofs.Knows.{before, knows_after, still}
 use Rattle.rising_lists.proofs.Rising.{length-with_item}
 use Rattle.label_index.specs.Entries.{Pair, pair_of, pair_cmp, is_pair, entry_for, with_pair, without_pair, slot_for, entries_in}
-use Rattle.label_index.specs.Index.{IsIndexed, takes_one_more, Indexes, Lacks, Has, WhereverIndexed, StaysKnown, Adds, Removes, FindsSlot}
+use Rattle.label_index.specs.Index.{IsIndexed, takes_one_more, Indexes, Lacks, Has, WhereverIndexed, Adds, Removes, FindsSlot}
 use Rattle.label_index.proofs.Keys.{equal_is, pair_apart, pair_itself, pair_same, tied_pair}
 use Rattle.label_index.proofs.Slots.{slot_with_entry, other_with_entry, slot_without_entry, other_without_entry, entry_in_slot, entry_for-with, entry_for-without, holder_in, holder-with_pair, holder-without_pair, index_same, slot_is, index_fixes_entries}
 use Rattle.label_index.proofs.Knows.{lacks_indexes, has_indexes, still_known}
@@ -74,28 +74,32 @@ few_made is few = subst (λ b. length (index_words b) ≤ most_words) (sym is) f
 
 -- ---- what is read of a slot
 
-pub spelled_slot : {N : Type 0} {state : StoreState N} (pair : Pair) {object : Place} → object ≡ slot_for state.shape pair → IsInRange state.shape → Knows Indexes state → Knows (IsSpelled IsIndexHolder index_words object) state
-spelled_slot {N} {state} pair {object} here ranges knows = record {
+pub spelled_at : {N : Type 0} {state : StoreState N} {object : Place} → IsSlot state.shape object → Knows Indexes state → Knows (IsSpelled IsIndexHolder index_words object) state
+spelled_at {N} {state} {object} is_slot knows = record {
   ordered = knows.ordered;
   always = λ store may.
       let is = knows.always store may in
-      subst (λ (place : Place). IsSpelled IsIndexHolder index_words place state.shape (overlay store state.writes)) (sym here) (record {
-        held = record { entries = entries_in state.shape is.entries (slot_for state.shape pair) };
-        is = holder_in state.shape (overlay store state.writes) is.entries (slot_for state.shape pair) is.indexed;
-        words = is.indexed.slots (slot_for state.shape pair) (slot_is state.shape pair ranges);
-      });
+      record {
+        held = record { entries = entries_in state.shape is.entries object };
+        is = holder_in state.shape (overlay store state.writes) is.entries object is.indexed;
+        words = is.indexed.slots object is_slot;
+      };
 }
+
+pub spelled_slot : {N : Type 0} {state : StoreState N} (pair : Pair) {object : Place} → object ≡ slot_for state.shape pair → IsInRange state.shape → Knows Indexes state → Knows (IsSpelled IsIndexHolder index_words object) state
+spelled_slot {N} {state} pair {object} here ranges knows = spelled_at (subst (IsSlot state.shape) (sym here) (slot_is state.shape pair ranges)) knows
+
+-- what was read of a slot are the entries that belong there
+pub found_entries : {N : Type 0} {old new : StoreState N} {place : Place} {index : IndexHolder} → IsSlot old.shape place → FindsHolder IsIndexHolder index_words place old new index
+    → WhereverIndexed old new (λ _ entries. index.entries ≡ entries_in old.shape entries place)
+found_entries {N} {old} {new} {place} {index} is_slot found store entries agrees indexed =
+    ap (λ (i : IndexHolder). i.entries) (index_same index (record { entries = entries_in old.shape entries place }) found.is (holder_in old.shape (overlay store old.writes) entries place indexed)
+    (sym (found.words store agrees) ∙ indexed.slots place is_slot))
 
 pub finds_slot : {N : Type 0} {old new : StoreState N} {pair : Pair} {object : Place} {index : IndexHolder} → object ≡ slot_for old.shape pair → FindsHolder IsIndexHolder index_words object old new index → FindsSlot pair old new index
 finds_slot {N} {old} {new} {pair} {object} {index} here read =
     let found = subst (λ (place : Place). FindsHolder IsIndexHolder index_words place old new index) here read in
-    record {
-      found = found;
-      entries = λ store entries agrees indexed.
-          let place = slot_for old.shape pair in
-          ap (λ (i : IndexHolder). i.entries) (index_same index (record { entries = entries_in old.shape entries place }) found.is (holder_in old.shape (overlay store old.writes) entries place indexed)
-          (sym (found.words store agrees) ∙ indexed.slots place (slot_is old.shape pair found.ranges)));
-    }
+    record { found = found; entries = found_entries (slot_is old.shape pair found.ranges) found }
 
 -- ---- the calls, where the slot was read
 

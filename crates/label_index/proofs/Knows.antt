@@ -1,7 +1,4 @@
 -- What is known of the index.
-use Rattle.std.proofs.Common.{◌≡◌}
-use Rattle.rma_layout.specs.Placement.{Place}
-use Rattle.object_words.specs.Contents.{IsByRisingObject}
 use Rattle.object_store.specs.State.{StoreState}
 use Rattle.object_store.specs.Works.{Looks}
 use Rattle.held_objects.specs.Knows.{Knows}

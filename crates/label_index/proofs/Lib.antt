@@ -3,3 +3,5 @@ pub mod Slots
 pub mod Knows
 pub mod InSlots
 pub mod Tagged
+pub mod Orders
+pub mod Listing

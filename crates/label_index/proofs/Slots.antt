@@ -1,6 +1,5 @@
 -- The entries of a slot, and what one entry more or less makes of them.
-use Rattle.std.proofs.Common.{◌≡◌, ℕ, ◌+◌, ◌*◌, ◌/◌, ◌%◌, Bool, true, false, cond, not, eqb, List, length, Option, Some, None, refl, sym, ap, ◌∙◌, arith, eq-eqb, eqb-true}
-use Rattle.std.specs.List.{filter}
+use Rattle.std.proofs.Common.{◌≡◌, ◌+◌, ◌/◌, Bool, true, false, cond, not, eqb, List, Some, None, refl, sym, ap, ◌∙◌, arith, eq-eqb, eqb-true}
 use Rattle.std.specs.Ordering.{eq_by_cmp}
 use Rattle.std.specs.FinMap.{is_sorted}
 use Rattle.std.proofs.lemmas.Bool.{and_parts, and_from}
@@ -8,7 +7,7 @@ use Rattle.std.proofs.lemmas.Nat.{mod_below}
 use Rattle.rma_layout.specs.Shape.{Shape}
 use Rattle.rma_layout.specs.Ranges.{IsInRange}
 use Rattle.rma_layout.specs.Placement.{Place, same_place}
-use Rattle.object_words.specs.Contents.{Contents, content_of}
+use Rattle.object_words.specs.Contents.{Contents}
 use Rattle.graph_model.proofs.Entries.{All-filter}
 use Rattle.holder_codec.specs.declared.index_entry.IndexEntry.{IndexEntry}
 use Rattle.holder_codec.specs.declared.index_holder.IndexHolder.{IndexHolder}

@@ -1,10 +1,9 @@
 -- A store of a graph has the index of the graph.
-use Rattle.std.proofs.Common.{◌≡◌, ℕ, zero, suc, ◌+◌, ◌^◌, ◌<◌, ◌≤◌, Bool, true, false, cond, ◌&&◌, List, [], ◌∷◌, ◌++◌, map, length, refl, sym, ap, subst, ◌∙◌, arith}
+use Rattle.std.proofs.Common.{◌≡◌, ℕ, zero, suc, ◌+◌, ◌^◌, ◌<◌, Bool, true, false, cond, ◌&&◌, List, [], ◌∷◌, ◌++◌, map, length, refl, sym, ap, subst, ◌∙◌, arith}
 use Rattle.std.specs.List.{AllByRecursion, filter, flat_map, range_with_len}
 use Rattle.std.specs.Ordering.{nat_cmp, ordering_then, is_lt}
 use Rattle.std.specs.Cmp.{nat_cmp_total, tied_itself}
-use Rattle.std.specs.declared.cmp.Ordering.{Ordering}
-use Rattle.std.specs.declared.cmp.Ordering.TheVariants.{Less, Equal, Greater}
+use Rattle.std.specs.declared.cmp.Ordering.TheVariants.{Less}
 use Rattle.std.specs.FinMap.{is_sorted}
 use Rattle.std.specs.FinMap.Entries.{below_all}
 use Rattle.std.proofs.lemmas.Bool.{and_parts, and_from}
@@ -22,13 +21,13 @@ use Rattle.graph_model.proofs.Entries.{All-map}
 use Rattle.object_store.specs.State.{StoreState}
 use Rattle.holder_codec.specs.declared.index_entry.IndexEntry.{IndexEntry}
 use Rattle.holder_codec.specs.Holders.{pair_words}
-use Rattle.holder_codec.specs.Index.{IndexEntryFits, index_entry_words, index_words, is_pair_before}
+use Rattle.holder_codec.specs.Index.{IndexEntryFits, index_entry_words, is_pair_before}
 use Rattle.holder_codec.specs.Represents.{Represents, pairs_of_label}
 use Rattle.holder_codec.proofs.Fitting.{few_names}
 use Rattle.held_objects.specs.Knows.{Knows}
 use Rattle.rising_lists.specs.Rising.{by_key}
 use Rattle.rising_lists.proofs.Rising.{is_rising-from}
-use Rattle.label_index.specs.Entries.{Pair, pair_of, pair_cmp, slot_for, entries_in}
+use Rattle.label_index.specs.Entries.{Pair, pair_of, pair_cmp, slot_for}
 use Rattle.label_index.specs.Index.{IsIndexed, Indexes}
 use Rattle.label_index.specs.Tagged.{tagged, tagged_with}
 use Rattle.label_index.proofs.Keys.{pair_total, pair_same, before_is}

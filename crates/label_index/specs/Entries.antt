@@ -1,5 +1,5 @@
 -- Entries of the index by their pairs of a label and a vertex.
-use Rattle.std.specs.Prelude.{◌==◌, ◌&&◌, ℕ, Bool, List, Option, not}
+use Rattle.std.specs.Prelude.{◌==◌, ◌&&◌, ℕ, ◌+◌, ◌/◌, ◌%◌, Bool, List, Option, not}
 use Rattle.std.specs.List.{filter}
 use Rattle.std.specs.Ordering.{nat_cmp, ordering_then}
 use Rattle.std.specs.declared.cmp.Ordering.{Ordering}
@@ -37,3 +37,7 @@ slot_for shape pair = slot_of shape pair.0 pair.1
 
 abbrev pub entries_in : Shape → List IndexEntry → Place → List IndexEntry
 entries_in shape entries place = filter (λ entry. same_place (slot_for shape (pair_of entry)) place) entries
+
+-- the slots in order, rank after rank
+abbrev pub slot_at : Shape → ℕ → Place
+slot_at shape n = record { rank = n / shape.slots; block = 1 + shape.buckets + n % shape.slots }

@@ -1,9 +1,10 @@
 -- What a transaction knows of the index, and what the calls on it do.
-use Rattle.std.specs.Prelude.{◌≡◌, ◌≢◌, ℕ, ◌+◌, ◌*◌, ◌≤◌, Bool, true, false, not, List, length, Option, Some, None, IsSome, IsTrue, MatchBool}
-use Rattle.std.specs.List.{AllByRecursion}
+use Rattle.std.specs.Prelude.{◌≡◌, ◌≢◌, ℕ, ◌+◌, ◌*◌, ◌≤◌, Bool, true, false, not, ◌==◌, List, ◌++◌, map, length, None, IsSome, IsTrue, MatchBool}
+use Rattle.std.specs.List.{filter, AllByRecursion}
 use Rattle.rma_layout.specs.Shape.{Shape}
 use Rattle.rma_layout.specs.Placement.{Place}
 use Rattle.object_words.specs.Contents.{Contents, content_of, overlay}
+use Rattle.graph_model.specs.Maps.{has}
 use Rattle.graph_model.specs.Sizes.{most_words, is_too_large}
 use Rattle.object_store.specs.State.{StoreState}
 use Rattle.object_store.specs.Works.{Looks}
@@ -15,7 +16,7 @@ use Rattle.holder_codec.specs.Represents.{IsSlot}
 use Rattle.holder_codec.specs.Knowing.{Wherever}
 use Rattle.held_objects.specs.Knows.{Knows}
 use Rattle.held_objects.specs.Held.{FindsHolder}
-use Rattle.label_index.specs.Entries.{Pair, entries_in, entry_for, pair_of, slot_for, with_pair, without_pair}
+use Rattle.label_index.specs.Entries.{Pair, entries_in, entry_for, pair_of, slot_at, slot_for, with_pair, without_pair}
 
 -- the index has these entries: each slot has the spelling of those that belong there
 pub record IsIndexed (shape : Shape) (contents : Contents) (entries : List IndexEntry) : Type 0 where
@@ -48,6 +49,10 @@ pub record Has (pair : Pair) (shape : Shape) (contents : Contents) : Type 0 wher
   pub indexed : IsIndexed shape contents entries
   pub present : IsSome (entry_for entries pair)
 
+-- the vertices with a label
+abbrev pub ids_of : ℕ → List IndexEntry → List ℕ
+ids_of label entries = map (λ entry. entry.id) (filter (λ entry. entry.label == label) entries)
+
 module _ {N : Type 0} where
   -- a fact of the store and of the entries of the index before the call, wherever that agrees with what is read after it
   abbrev pub WhereverIndexed : StoreState N → StoreState N → (Contents → List IndexEntry → Type 0) → Type 0
@@ -76,7 +81,20 @@ module _ {N : Type 0} where
     pub indexes : Knows Indexes new
     pub others : StaysKnown (λ other. other ≢ pair) old new
 
+  -- all vertices with a label, as a call that only looks finds them
+  pub record Lists (label : ℕ) (old new : StoreState N) (ids : List ℕ) : Type 0 where
+    pub looks : Looks old new
+    pub listed : WhereverIndexed old new (λ _ entries. ids ≡ ids_of label entries)
+    pub unlisted : (id : ℕ) → has ids id ≡ false → Knows (Lacks (label, id)) new
+    pub indexes : Knows Indexes new
+    pub known : StaysKnown (λ _. Unit {0}) old new
+
   -- the slot as it stands; the contracts of private functions alone cite this
   pub record FindsSlot (pair : Pair) (old new : StoreState N) (index : IndexHolder) : Type 0 where
     pub found : FindsHolder IsIndexHolder index_words (slot_for old.shape pair) old new index
     pub entries : WhereverIndexed old new (λ _ entries. index.entries ≡ entries_in old.shape entries (slot_for old.shape pair))
+
+  -- one slot's vertices with a label behind those of others; the contracts of private functions alone cite this
+  pub record ListsSlot (label n : ℕ) (old new : StoreState N) (before after : List ℕ) : Type 0 where
+    pub looks : Looks old new
+    pub listed : WhereverIndexed old new (λ _ entries. after ≡ before ++ ids_of label (entries_in old.shape entries (slot_at old.shape n)))

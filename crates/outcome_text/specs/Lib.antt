@@ -1,1 +1,5 @@
 pub mod Outputs
+pub mod Runs
+pub mod WrongLine
+pub mod Reading
+pub mod OldOutputs

@@ -1,5 +1,5 @@
 -- How the outcomes of a run are printed.
-use Rattle.std.specs.Prelude.{ℕ, List, [], ◌∷◌, ◌++◌, map, codes, if◌then◌else◌}
+use Rattle.std.specs.Prelude.{ℕ, Bool, List, [], ◌∷◌, ◌++◌, map, codes, if◌then◌else◌}
 use Rattle.std.specs.List.{flat_map}
 use Rattle.std.specs.Fmt.{decimal}
 use Rattle.gdi_kinds.specs.declared.edge_line.EdgeLine.{EdgeLine}
@@ -17,10 +17,11 @@ abbrev pub prop_text : PropLine → List ℕ
 prop_text prop = prop.name ++ 61 ∷ value_text prop.value
 
 -- The item of an undirected edge doesn't tell at which end it stands.
+abbrev pub way_text : Bool → Bool → List ℕ
+way_text undirected inward = if undirected then codes "und" else (if inward then codes "in" else codes "out")
+
 abbrev pub edge_text : EdgeLine → List ℕ
-edge_text line =
-    (if line.undirected then codes "und" else (if line.inward then codes "in" else codes "out"))
-    ++ 58 ∷ decimal line.source ++ 58 ∷ decimal line.ordinal ++ 58 ∷ decimal line.target
+edge_text line = way_text line.undirected line.inward ++ 58 ∷ decimal line.source ++ 58 ∷ decimal line.ordinal ++ 58 ∷ decimal line.target
 
 abbrev pub pair_text : Pair → List ℕ
 pair_text pair = decimal pair.id ++ 58 ∷ decimal pair.number

@@ -1,5 +1,6 @@
 ghost use Rattle.std.specs.Prelude.{◌≡◌, ◌++◌, ◌∷◌, IfOk, OnOk};
 ghost use Rattle.std.specs.List.{flat_map};
+ghost use Rattle.outcome_text.specs.Runs.{IsRun, IsOutputAlone};
 ghost use Rattle.outcome_text.specs.Outputs.{output_text, line_text, reply_line, reply_word, reply_items, items_text};
 
 use crate::items::print_items;
@@ -7,9 +8,11 @@ use gdi_kinds::{Bytes, Line, NoMemory, Outcome, Printed, Reply};
 use std::alloc::Global;
 use text_words::{print_number, print_value};
 
-/// The text of a run: a line for each outcome and each of its replies, and a last one with the number of entries.
+/// The text of a run: a line for each outcome and each of its replies, and a last one with the number of entries. Where
+/// no item of an undirected edge is inward, it is the text of this run alone, and `read_outcomes` gives the run back.
 pub fn print_outcomes(alloc: Global, printed: &Printed) -> Result<Bytes, NoMemory>
-    ensures { IfOk result (λ bytes. bytes ≡ output_text printed.now) }
+    ensures text { IfOk result (λ bytes. bytes ≡ output_text printed.now) }
+    ensures alone { IsRun printed.now → IfOk result (λ bytes. IsOutputAlone bytes printed.now) }
 {
     let mut out = Vec::new(alloc);
     for line in printed.lines.as_slice() {

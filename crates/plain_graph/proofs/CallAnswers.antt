@@ -1,5 +1,5 @@
 -- What a call answers, refusal by refusal.
-use Rattle.std.proofs.Common.{◌≡◌, ℕ, Bool, true, false, not, List, [], ◌∷◌, ◌++◌, ◌||◌, if◌then◌else◌, Option, Some, None, is_some, Result, Ok, Err, IfOk, OnOk, refl, ap, sym, ◌∙◌, ◌==◌}
+use Rattle.std.proofs.Common.{◌≡◌, ℕ, Bool, true, false, not, List, [], ◌∷◌, ◌++◌, ◌||◌, Some, None, is_some, Result, Ok, Err, IfOk, OnOk, ap, sym, ◌==◌}
 use Rattle.std.specs.List.{filter}
 use Rattle.gdi_kinds.specs.declared.value.Value.{Value}
 use Rattle.gdi_kinds.specs.declared.value.Kind.{Kind}

@@ -4,6 +4,10 @@ pub mod Props
 pub mod Tallies
 pub mod Buckets
 pub mod CallAnswers
+pub mod EdgeAnswers
+pub mod EdgeWrites
+pub mod Cuts
+pub mod Ends
 pub mod Writes
 pub mod Places
 pub mod Slots

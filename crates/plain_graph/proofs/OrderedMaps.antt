@@ -1,10 +1,8 @@
 -- What the calls of an ordered map leave, in the words of maps as lists of entries.
-use Rattle.std.proofs.Common.{◌≡◌, ℕ, ◌+◌, length, Bool, true, false, cond, List, [], ◌∷◌, ◌++◌, Some, None, is_some, refl, ap, sym, subst, ◌∙◌, arith, true≢false}
-use Rattle.std.specs.List.{AllByRecursion, count_by}
+use Rattle.std.proofs.Common.{◌≡◌, ℕ, ◌+◌, length, Bool, true, false, cond, List, [], ◌∷◌, Some, None, is_some, refl, ap, sym, ◌∙◌, arith, true≢false}
+use Rattle.std.specs.List.{count_by}
 use Rattle.std.specs.List.Sorted.{IsStrictlySortedBy}
-use Rattle.std.specs.Ordering.{nat_cmp, is_eq, match_ordering, ordering_reverse}
-use Rattle.std.specs.declared.cmp.Ordering.{Ordering}
-use Rattle.std.specs.Cmp.{IsTotalOrder}
+use Rattle.std.specs.Ordering.{nat_cmp, is_eq, match_ordering}
 use Rattle.std.specs.declared.cmp.Ordering.TheVariants.{Less, Equal, Greater}
 use Rattle.std.specs.Map.{keys_of, lookup, remove_entry, set_value}
 use Rattle.std.specs.BTreeSet.{insert_key}
@@ -14,32 +12,12 @@ use Rattle.std.specs.Cmp.{nat_cmp_total}
 use Rattle.std.specs.BTreeMap.{insert_entry, is_at}
 use Rattle.std.specs.FinMap.Entries.{by_order}
 use Rattle.std.proofs.lemmas.Bool.Decides.{nat_tests}
-use Rattle.std.proofs.lemmas.List.{append_assoc}
 use Rattle.std.proofs.lemmas.List.Sums.{sum_by-cons}
 use Rattle.std.proofs.lemmas.Map.{lookup-none}
 use Rattle.std.proofs.lemmas.Map.Entries.{none_below_head}
-use Rattle.std.proofs.lemmas.Map.Keys.{sorted_head, sorted_tail}
+use Rattle.std.proofs.lemmas.Map.Keys.{sorted_tail}
 use Rattle.graph_model.specs.Maps.{Map, at, is_there, with_at, without, has, add, take_out}
 use Rattle.graph_model.proofs.VertexSteps.{without-absent}
-
-in_middle : {K X : Type 0} (P : K → Type 0) (es : List (K × X)) (k : K) (x : X) (rest : List (K × X)) → AllByRecursion P (keys_of (es ++ (k, x) ∷ rest)) → P k
-in_middle P [] k x rest all = all.0
-in_middle P (e ∷ es) k x rest all = in_middle P es k x rest all.1
-
-insert_entry-push : {K X : Type 0} {R : K → K → Ordering} (total : IsTotalOrder R) (es : List (K × X)) (k : K) (x : X) (rest : List (K × X)) → IsStrictlySortedBy R (keys_of (es ++ (k, x) ∷ rest)) → insert_entry R es k x ≡ es ++ (k, x) ∷ []
-insert_entry-push total [] k x rest rises = refl
-insert_entry-push {R = R} total (e ∷ es) k x rest rises =
-    let below = in_middle (λ key. R e.0 key ≡ Less) es k x rest (sorted_head R e.0 _ rises) in
-    ap (λ order. match_ordering order ((k, x) ∷ e ∷ es) ((e.0, x) ∷ es) (e ∷ insert_entry R es k x)) (total.antisymm k e.0 ∙ ap ordering_reverse below)
-    ∙ ap (λ later. e ∷ later) (insert_entry-push total es k x rest (sorted_tail R e.0 _ rises))
-
--- the entries of a copy so far take the next one at their end
-pub copied_more : {K X : Type 0} {R : K → K → Ordering} (total : IsTotalOrder R) (all so_far rest later after : List (K × X)) (k : K) (x : X) → IsStrictlySortedBy R (keys_of all)
-    → so_far ++ rest ≡ all → rest ≡ (k, x) ∷ later → after ≡ insert_entry R so_far k x → after ++ later ≡ all
-copied_more {R = R} total all so_far rest later after k x rises whole next is =
-    let split = ap (λ es. so_far ++ es) (sym next) ∙ whole in
-    ap (λ es. es ++ later) (is ∙ insert_entry-push total so_far k x later (subst (λ es. IsStrictlySortedBy R (keys_of es)) (sym split) rises))
-    ∙ append_assoc so_far ((k, x) ∷ []) later ∙ split
 
 module _ {X : Type 0} where
   pub lookup-at : (k : ℕ) (es : Map ℕ X) → lookup (is_at (nat_cmp k)) es ≡ at es k

@@ -1,6 +1,5 @@
 -- The words of properties: what giving a type other values changes.
 use Rattle.std.proofs.Common.{◌≡◌, ℕ, ◌+◌, ◌≤◌, List, [], ◌∷◌, ◌++◌, Option, Some, None, is_some, refl, sym, ap, ◌∙◌, arith}
-use Rattle.std.specs.List.{sum_by}
 use Rattle.std.specs.List.Sorted.{IsStrictlySortedBy}
 use Rattle.std.specs.Option.{option_map_or, unwrap_or}
 use Rattle.std.specs.Ordering.{nat_cmp}
@@ -8,7 +7,7 @@ use Rattle.std.specs.Map.{keys_of, remove_entry, lookup, set_value}
 use Rattle.std.specs.BTreeMap.{is_at, insert_entry}
 use Rattle.std.proofs.lemmas.List.Sums.{sum_by_push}
 use Rattle.gdi_kinds.specs.declared.value.Value.{Value}
-use Rattle.graph_model.specs.Maps.{Map, at, with_at}
+use Rattle.graph_model.specs.Maps.{at, with_at}
 use Rattle.graph_model.specs.Graph.{Props}
 use Rattle.graph_model.specs.Lookups.{values_at}
 use Rattle.graph_model.specs.Sizes.{words_of_value, words_of_values, words_of_props}

@@ -1,22 +1,22 @@
 -- Counts of the labels that each object of the index keeps.
-use Rattle.std.proofs.Common.{◌≡◌, ℕ, ◌+◌, ◌*◌, ◌<◌, ◌≤◌, Bool, true, false, cond, List, [], ◌∷◌, Option, Some, None, is_some, refl, ap, sym, subst, ◌∙◌, eqb, nat_le, arith}
+use Rattle.std.proofs.Common.{◌≡◌, ℕ, ◌+◌, ◌*◌, ◌≤◌, Bool, false, cond, Option, Some, None, is_some, refl, ap, sym, ◌∙◌, eqb, nat_le, arith}
 use Rattle.std.specs.List.{count_by, sum_by}
 use Rattle.std.specs.List.Sorted.{IsStrictlySortedBy}
 use Rattle.std.specs.Option.{option_map_or}
 use Rattle.std.specs.Ordering.{nat_cmp}
 use Rattle.std.specs.Map.{keys_of, lookup, remove_entry, set_value}
-use Rattle.std.specs.BTreeMap.{insert_entry, is_at}
+use Rattle.std.specs.BTreeMap.{is_at}
 use Rattle.std.proofs.lemmas.Bool.Decides.{nat_tests}
 use Rattle.rma_layout.specs.Shape.{Shape}
 use Rattle.rma_layout.specs.Ranges.{IsInRange}
-use Rattle.rma_layout.specs.Placement.{Place, same_place, raw_of, FitsOneWord, slot_of}
-use Rattle.graph_model.specs.Maps.{Map, at, is_there, with_at, has, add, take_out}
+use Rattle.rma_layout.specs.Placement.{same_place, raw_of, FitsOneWord, slot_of}
+use Rattle.graph_model.specs.Maps.{Map, at, is_there, with_at, has, add}
 use Rattle.graph_model.specs.Graph.{Vertex, new_vertex}
 use Rattle.graph_model.specs.Sizes.{is_too_large}
 use Rattle.graph_model.proofs.Entries.{nothing}
 use Rattle.plain_graph.specs.Counts.{count_of}
 use Rattle.plain_graph.specs.Plain.{labels_kept, kept_by, CountsSlots}
-use Rattle.plain_graph.proofs.OrderedMaps.{lookup-at, insert_entry-with_at, set_value-with_at, count_by-add}
+use Rattle.plain_graph.proofs.OrderedMaps.{lookup-at, set_value-with_at, count_by-add}
 use Rattle.plain_graph.proofs.Weights.{weight_at, weighed-with_at, weighed-removed}
 use Rattle.plain_graph.proofs.Buckets.{same_place-raw}
 

@@ -1,14 +1,19 @@
 -- What a plain graph is: a graph, and the shape by whose placement its calls are refused for want of room in an object.
-use Rattle.std.specs.Prelude.{◌≡◌, ℕ, ◌+◌, ◌≤◌, Bool, false, List, [], length, sum_by, count_by, ◌==◌}
+use Rattle.std.specs.Prelude.{◌≡◌, ℕ, ◌+◌, ◌<◌, ◌≤◌, Bool, false, List, [], length, ◌&&◌, sum_by, count_by, ◌==◌, IsSome, IsSomeAnd}
+use Rattle.std.specs.List.{AllByRecursion, list_any}
 use Rattle.gdi_kinds.specs.declared.call.Call.{Call}
-use Rattle.gdi_kinds.specs.declared.call.Call.TheVariants.{NewLabel, NewType, Vertex as MakeVertex, Has, DropVertex, Tag, Untag, Set, Add, Get, Unset}
+use Rattle.gdi_kinds.specs.declared.call.Call.TheVariants.{NewLabel, NewType, Vertex as MakeVertex, Has, DropVertex, Tag, Untag, Set, Add, Get, Unset, Edge as MakeEdge, UEdge, Cut, Target, ETag, EUntag, ESet, EAdd, EGet, EUnset}
 use Rattle.gdi_kinds.specs.declared.reply.Reply.{Reply}
 use Rattle.rma_layout.specs.Shape.{Shape}
 use Rattle.rma_layout.specs.Placement.{raw_of, bucket_of, slot_of}
-use Rattle.graph_model.specs.Maps.{Map}
-use Rattle.graph_model.specs.Graph.{Name, PropType, Graph, Vertex}
+use Rattle.graph_model.specs.Maps.{Map, at}
+use Rattle.graph_model.specs.Graph.{Name, PropType, Graph, Vertex, Edge, EdgeKey}
 use Rattle.graph_model.specs.Sizes.{most_words, words_of_bytes}
+use Rattle.graph_model.specs.Steps.{Step, Answer, answer_of}
+use Rattle.graph_model.specs.VertexCalls.{with_vertex}
+use Rattle.graph_model.specs.EdgeCalls.{with_edge}
 use Rattle.graph_model.specs.Calls.{answer_to}
+use Rattle.edge_index.specs.Index.{source_of, target_of, Indexes}
 use Rattle.plain_graph.specs.Counts.{count_of}
 
 pub record Plain : Type 0 where
@@ -19,9 +24,21 @@ pub record Plain : Type 0 where
 abbrev pub Answers : Plain → Call → Plain → Reply → Type 0
 Answers before call after reply = answer_to before.shape before.graph call ≡ (record { graph = after.graph; reply = reply })
 
--- so far a plain graph holds no edges
-abbrev pub graph_of : List Name → List PropType → Map ℕ Vertex → Graph
-graph_of labels types vertices = record { labels = labels; types = types; vertices = vertices; edges = [] }
+-- what the steps of a call end with
+abbrev pub Ends : Plain → Step Answer → Plain → Reply → Type 0
+Ends before steps after reply = answer_of before.graph steps ≡ (record { graph = after.graph; reply = reply })
+
+-- a graph with an edge more, which has the next ordinal of its source
+abbrev pub with_new_edge : Graph → ℕ → Vertex → ℕ → Bool → List ℕ → Graph
+with_new_edge g source vertex target undirected labels =
+    with_edge (with_vertex g source (record vertex { next = vertex.next + 1 })) source vertex.next (record { target = target; undirected = undirected; labels = labels; props = [] })
+
+-- whether an edge's name is one of these
+abbrev pub is_among : List EdgeKey → EdgeKey → Bool
+is_among keys key = list_any (λ k. key.source == k.source && key.ordinal == k.ordinal) keys
+
+abbrev pub graph_of : List Name → List PropType → Map ℕ Vertex → Map EdgeKey Edge → Graph
+graph_of labels types vertices edges = record { labels = labels; types = types; vertices = vertices; edges = edges }
 
 -- how many vertices have this pointer to their bucket
 abbrev pub led_to_by : Shape → Map ℕ Vertex → ℕ → ℕ
@@ -54,11 +71,35 @@ pub record CountsNames (labels : List Name) (types : List PropType) (words : ℕ
   pub sum : words ≡ words_of_labels labels + words_of_types types
   pub within : words ≤ most_words
 
--- what is kept beside the graph fits it; where a change has begun and not ended, the counts of buckets and index need not
-pub record IsCounted (shape : Shape) (labels : List Name) (types : List PropType) (vertices : Map ℕ Vertex) (words : ℕ) (torn : Bool) (bucket_counts slot_counts : Map ℕ ℕ) : Type 0 where
+-- both ends of an edge are vertices, and the source has given out its ordinal
+pub record IsBetween (vertices : Map ℕ Vertex) (entry : EdgeKey × Edge) : Type 0 where
+  pub source : IsSomeAnd (at vertices entry.0.source) (λ vertex. entry.0.ordinal < vertex.next)
+  pub target : IsSome (at vertices entry.1.target)
+
+-- neither end is this vertex
+abbrev pub IsApart : ℕ → EdgeKey × Edge → Type 0
+IsApart id entry = ((entry.0.source == id) ≡ false) × ((entry.1.target == id) ≡ false)
+
+-- what is kept beside the graph fits it; where a change has begun and not ended, all but the words of the names need not
+pub record IsCounted (shape : Shape) (labels : List Name) (types : List PropType) (vertices : Map ℕ Vertex) (edges : Map EdgeKey Edge) (words : ℕ) (torn : Bool) (bucket_counts slot_counts : Map ℕ ℕ) (out_index in_index : Map ℕ (List EdgeKey)) : Type 0 where
   pub names : CountsNames labels types words
   pub buckets : torn ≡ false → CountsBuckets shape vertices bucket_counts
   pub slots : torn ≡ false → CountsSlots shape vertices slot_counts
+  pub outgoing : torn ≡ false → Indexes source_of edges out_index
+  pub incoming : torn ≡ false → Indexes target_of edges in_index
+  pub ends : torn ≡ false → AllByRecursion (IsBetween vertices) edges
+
+-- the calls on an edge that stand
+abbrev pub IsOnEdge : Call → Type 0
+IsOnEdge (Cut source ordinal) = Unit {0}
+IsOnEdge (Target source ordinal) = Unit {0}
+IsOnEdge (ETag source ordinal label) = Unit {0}
+IsOnEdge (EUntag source ordinal label) = Unit {0}
+IsOnEdge (ESet source ordinal prop value) = Unit {0}
+IsOnEdge (EAdd source ordinal prop value) = Unit {0}
+IsOnEdge (EGet source ordinal prop) = Unit {0}
+IsOnEdge (EUnset source ordinal prop) = Unit {0}
+IsOnEdge call = ⊥
 
 -- the calls that stand
 abbrev pub Stands : Call → Type 0
@@ -73,4 +114,6 @@ Stands (Set id prop value) = Unit {0}
 Stands (Add id prop value) = Unit {0}
 Stands (Get id prop) = Unit {0}
 Stands (Unset id prop) = Unit {0}
-Stands call = ⊥
+Stands (MakeEdge source target label) = Unit {0}
+Stands (UEdge source target label) = Unit {0}
+Stands call = IsOnEdge call

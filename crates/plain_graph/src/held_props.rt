@@ -1,10 +1,10 @@
-ghost use Rattle.std.specs.Prelude.{◌≡◌, ◌+◌, ◌≤◌, [], ◌∷◌, ◌++◌, IfOk, OnOk};
+ghost use Rattle.std.specs.Prelude.{◌≡◌, ◌+◌, ◌≤◌, [], ◌∷◌, ◌++◌, length, IfOk, OnOk};
 ghost use Rattle.std.specs.Option.{option_copied};
 ghost use Rattle.graph_model.specs.Maps.{at, is_there, with_at, without};
 ghost use Rattle.graph_model.specs.Lookups.{values_at};
 ghost use Rattle.graph_model.specs.Sizes.{words_of_value, words_of_values, words_of_props};
 
-use crate::map_copy::copy_of_map;
+use edge_index::copy_of_map;
 use gdi_kinds::{Duplicate, NoMemory, Value, ValueList};
 use rma_layout::MOST_WORDS;
 use std::alloc::Global;
@@ -48,6 +48,13 @@ impl HeldProps {
         ensures within { result ≤ 1048576 }
     {
         self.words
+    }
+
+    /// How many types have values.
+    pub(crate) fn count(&self) -> u64
+        ensures { result ≡ length self.now }
+    {
+        self.values.len() as u64
     }
 
     /// The values of a type.

@@ -44,6 +44,21 @@ impl HeldVertex {
         }
     }
 
+    /// The ordinal of the next edge from it.
+    pub(crate) fn next(&self) -> u64
+        ensures { result ≡ self.now.next }
+    {
+        self.next
+    }
+
+    /// Counts the ordinal of the next edge as given out.
+    pub(crate) fn raise_next(&mut self)
+        requires { self.old.next + 1 < 2 ^ 64 }
+        ensures { self.new ≡ (record self.old { next = self.old.next + 1 }) }
+    {
+        self.next += 1;
+    }
+
     /// How many labels it has.
     pub(crate) fn label_count(&self) -> u64
         ensures value { result ≡ length self.now.labels }
@@ -105,11 +120,13 @@ impl HeldVertex {
     {
         &self.props
     }
+
     /// Gives a property this value alone.
     pub(crate) fn set_value(&mut self, alloc: Global, ty: u32, value: Value) -> Result<(), NoMemory>
         requires { words_of_props (with_at self.old.props ty (value ∷ [])) ≤ 1048576 }
         ensures changed { OnOk result (self.new ≡ (record self.old { props = with_at self.old.props ty (value ∷ []) })) }
         ensures labels { self.new.labels ≡ self.old.labels }
+        ensures next { self.new.next ≡ self.old.next }
     {
         self.props.set(alloc, ty, value)
     }
@@ -120,6 +137,7 @@ impl HeldVertex {
         ensures changed { OnOk result (self.new
             ≡ (record self.old { props = with_at self.old.props ty (values_at self.old.props ty ++ value ∷ []) })) }
         ensures labels { self.new.labels ≡ self.old.labels }
+        ensures next { self.new.next ≡ self.old.next }
     {
         self.props.add(alloc, ty, value)
     }

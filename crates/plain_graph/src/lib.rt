@@ -1,10 +1,10 @@
 //! A plain program that does the sequential property graph's calls, over ordered maps.
 #![tactic(auto)]
 
+mod held_edge;
 mod held_props;
 mod held_type;
 mod held_vertex;
-mod map_copy;
 mod plain_graph;
 mod refused;
 mod tally;

@@ -3,8 +3,12 @@ ghost use Rattle.std.specs.List.{AllByRecursion};
 ghost use Rattle.graph_model.specs.Graph.{empty_graph};
 ghost use Rattle.graph_model.specs.Calls.{graph_after_call, reply_to};
 ghost use Rattle.graph_model.specs.Transactions.{graph_after_calls, graph_after_txn, replies_to, replies_to_calls};
-ghost use Rattle.plain_graph.specs.Plain.{Stands};
+ghost use Rattle.plain_graph.specs.Plain.{Answers, IsOnEdge, Stands};
 
+mod edge_changes;
+mod edge_props;
+mod edge_tags;
+mod edges;
 mod looks;
 mod names;
 mod props;
@@ -12,10 +16,11 @@ mod tags;
 mod vertices;
 
 use crate::ModelRefused;
+use crate::held_edge::HeldEdge;
 use crate::held_type::HeldType;
 use crate::held_vertex::HeldVertex;
-use crate::map_copy::copy_of_map;
 use crate::tally::Tally;
+use edge_index::{EdgeIndex, EdgeKey, copy_of_map};
 use gdi_kinds::{Call, Duplicate, ListOf, NameList, NoMemory, Reply, ReplyList, Txn};
 use rma_layout::Geometry;
 use std::alloc::Global;
@@ -36,12 +41,16 @@ pub struct PlainGraph {
     name_words: u64,
     // By identifier.
     vertices: BTreeMap<u64, HeldVertex, Global>,
-    // Whether a change has begun and not ended, since no memory was found for it. The counts below may then be wrong.
+    edges: BTreeMap<EdgeKey, HeldEdge, Global>,
+    // Whether a change has begun and not ended, since no memory was found for it. What stands below may then be wrong.
     torn: bool,
     // How many vertices each bucket leads to, by the bucket's pointer.
     bucket_counts: Tally,
     // How many labels of vertices each object of the index keeps, by its pointer.
     slot_counts: Tally,
+    // The edges from each vertex, and those to it.
+    outgoing: EdgeIndex,
+    incoming: EdgeIndex,
 }
 
 impl Model for PlainGraph {
@@ -51,9 +60,9 @@ impl Model for PlainGraph {
 
     ghost use Rattle.plain_graph.specs.Plain.{graph_of, IsCounted};
 
-    ghost view = { λ plain. record { shape = plain.geometry; graph = graph_of plain.labels plain.types plain.vertices.entries } };
+    ghost view = { λ plain. record { shape = plain.geometry; graph = graph_of plain.labels plain.types plain.vertices.entries plain.edges.entries } };
 
-    ghost invariant = { λ plain. IsCounted plain.geometry plain.labels plain.types plain.vertices.entries plain.name_words plain.torn plain.bucket_counts plain.slot_counts };
+    ghost invariant = { λ plain. IsCounted plain.geometry plain.labels plain.types plain.vertices.entries plain.edges.entries plain.name_words plain.torn plain.bucket_counts plain.slot_counts plain.outgoing plain.incoming };
 }
 
 impl PlainGraph {
@@ -69,14 +78,18 @@ impl PlainGraph {
             types: ListOf::new(alloc),
             name_words: 0,
             vertices: BTreeMap::new(alloc),
+            edges: BTreeMap::new(alloc),
             torn: false,
             bucket_counts: Tally::new(alloc),
             slot_counts: Tally::new(alloc),
+            outgoing: EdgeIndex::new(alloc),
+            incoming: EdgeIndex::new(alloc),
         }
     }
 
-    /// Does a call and answers its reply. So far it takes the calls that make labels and types, those that make, drop and
-    /// ask for vertices, those that tag and untag a vertex, and those that set, add, get and unset a property of it.
+    /// Does a call and answers its reply. So far it takes the calls that make labels and types, vertices and edges, those
+    /// that drop and ask for vertices, that cut an edge and ask where it leads, and those that tag and untag a vertex or
+    /// an edge and set, add, get and unset a property of it.
     pub fn apply(&mut self, call: &Call) -> Result<Reply, ModelRefused>
         requires { Stands call.now }
         ensures shape { self.new.shape ≡ self.old.shape }
@@ -95,6 +108,61 @@ impl PlainGraph {
             Call::Add { id, prop, value } => self.add_prop(*id, prop, value),
             Call::Get { id, prop } => self.get_prop(*id, prop),
             Call::Unset { id, prop } => Ok(self.unset_prop(*id, prop)),
+            Call::Edge {
+                source,
+                target,
+                label,
+            } => self.make_edge(*source, *target, false, label),
+            Call::UEdge {
+                source,
+                target,
+                label,
+            } => self.make_edge(*source, *target, true, label),
+            _ => self.apply_to_edge(call),
+        }
+    }
+
+    // The calls on an edge that is there.
+    fn apply_to_edge(&mut self, call: &Call) -> Result<Reply, ModelRefused>
+        requires { IsOnEdge call.now }
+        ensures shape { self.new.shape ≡ self.old.shape }
+        ensures answer { IfOk result (Answers self.old call.now self.new) }
+    {
+        match call {
+            Call::Cut { source, ordinal } => self.cut(*source, *ordinal),
+            Call::Target { source, ordinal } => self.target(*source, *ordinal),
+            Call::ETag {
+                source,
+                ordinal,
+                label,
+            } => self.tag_edge(*source, *ordinal, label),
+            Call::EUntag {
+                source,
+                ordinal,
+                label,
+            } => self.untag_edge(*source, *ordinal, label),
+            Call::ESet {
+                source,
+                ordinal,
+                prop,
+                value,
+            } => self.set_edge_prop(*source, *ordinal, prop, value),
+            Call::EAdd {
+                source,
+                ordinal,
+                prop,
+                value,
+            } => self.add_edge_prop(*source, *ordinal, prop, value),
+            Call::EGet {
+                source,
+                ordinal,
+                prop,
+            } => self.get_edge_prop(*source, *ordinal, prop),
+            Call::EUnset {
+                source,
+                ordinal,
+                prop,
+            } => self.unset_edge_prop(*source, *ordinal, prop),
             _ => unreachable!(),
         }
     }
@@ -137,9 +205,12 @@ impl PlainGraph {
             types: self.types.copy(self.alloc)?,
             name_words: self.name_words,
             vertices: copy_of_map(self.alloc, &self.vertices)?,
+            edges: copy_of_map(self.alloc, &self.edges)?,
             torn: self.torn,
             bucket_counts: self.bucket_counts.copy(self.alloc)?,
             slot_counts: self.slot_counts.copy(self.alloc)?,
+            outgoing: self.outgoing.copy(self.alloc)?,
+            incoming: self.incoming.copy(self.alloc)?,
         })
     }
 }

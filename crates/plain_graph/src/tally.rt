@@ -1,7 +1,7 @@
 ghost use Rattle.std.specs.Prelude.{◌≡◌, ℕ, ◌+◌, ◌≤◌, [], OnOk, if◌then◌else◌, ◌==◌};
 ghost use Rattle.plain_graph.specs.Counts.{count_of};
 
-use crate::map_copy::copy_of_map;
+use edge_index::copy_of_map;
 use gdi_kinds::{Duplicate, NoMemory};
 use std::alloc::Global;
 use std::collections::BTreeMap;

@@ -5,3 +5,7 @@ pub mod PartLemmas
 pub mod PrintedLemmas
 pub mod LineLaw
 pub mod ScriptLaw
+pub mod OldLaw
+pub mod FaultlessWords
+pub mod FaultlessCalls
+pub mod FaultlessLaw

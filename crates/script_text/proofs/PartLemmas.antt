@@ -116,10 +116,10 @@ all_push : {X : Type 0} (P : X → Type 0) (xs : List X) (x : X) → AllByRecurs
 all_push P [] x all here = (here, tt)
 all_push P (y ∷ ys) x all here = (all.0, all_push P ys x all.1 here)
 
-abbrev at : Stage → Reader → Reader
+abbrev pub at : Stage → Reader → Reader
 at here r = record r { place = record r.place { stage = here } }
 
-spelled_at : (here : Stage) (text : List ℕ) (r : Reader) → ¬ IsOpen here → IsReading (at here r) → counted (lines_of text) ≡ map line_of (steps_in here (at here r)) → Spells text (script_at here (at here r))
+pub spelled_at : (here : Stage) (text : List ℕ) (r : Reader) → ¬ IsOpen here → IsReading (at here r) → counted (lines_of text) ≡ map line_of (steps_in here (at here r)) → Spells text (script_at here (at here r))
 spelled_at stage.Outside text r closed was lines = record {
   form = record {
     few_sections = omega (arith, ap length was.here.1);

@@ -4,3 +4,5 @@ pub mod Scripts
 pub mod Shown
 pub mod Faults
 pub mod Reading
+pub mod OldScripts
+pub mod Faultless

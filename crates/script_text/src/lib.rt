@@ -4,6 +4,7 @@
 mod bytes;
 mod call_printer;
 mod call_reader;
+pub mod laws;
 mod line_reader;
 mod place;
 mod script_printer;

@@ -5,7 +5,8 @@ ghost use Rattle.held_objects.specs.Knows.{Knows};
 ghost use Rattle.label_index.specs.Index.{Has, Lacks};
 
 use crate::keeping::Keeping;
-use label_index::{add, remove};
+use gdi_kinds::NumList;
+use label_index::{add, ids, remove};
 use object_store::{PlainStore, Store};
 use rma_layout::Geometry;
 use std::alloc::Global;
@@ -28,4 +29,41 @@ fn exchange<S: Store<Keeping>>(
     let added = add(alloc, store, label, id)?;
     remove(alloc, store, label, other)?;
     Ok(added)
+}
+
+/// Enters a label of two vertices where nobody has it, and lists the vertices that have it. Nothing is committed.
+fn enter_and_list<S: Store<Keeping>>(
+    alloc: Global,
+    store: &mut S,
+    label: u32,
+    one: u64,
+    other: u64,
+) -> Result<Option<NumList>, S::Refused>
+    requires idle { (S.state store.old).phase ≡ Idle }
+    requires apart { other ≢ one }
+{
+    let geometry = store.geometry();
+    geometry.keeps_ranges();
+    store.begin(true)?;
+    let before = ids(alloc, store, label)?;
+    if before.len() > 0 {
+        store.abort();
+        return Ok(None);
+    }
+    let _one = add(alloc, store, label, one)?;
+    let _other = add(alloc, store, label, other)?;
+    let after = ids(alloc, store, label)?;
+    store.abort();
+    Ok(Some(after))
+}
+
+#[test]
+fn vertices_of_a_label(rt: HostRuntime) -> Result<(), Fail> {
+    let geometry = Geometry::new(3, 100, 8, 2, 4)?;
+    let mut store = PlainStore::<Keeping>::new(rt.alloc(), geometry)?;
+    let Ok(Some(listed)) = enter_and_list(rt.alloc(), &mut store, 2, 70, 5) else {
+        return Err("refused".into());
+    };
+    assert_eq!(rt; listed.as_slice(), [5, 70].as_slice());
+    Ok(())
 }

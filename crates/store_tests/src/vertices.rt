@@ -3,16 +3,16 @@ ghost use Rattle.rma_layout.specs.Shape.{Shape};
 ghost use Rattle.rma_layout.specs.Placement.{IsBlock};
 ghost use Rattle.object_store.specs.declared.phase.Phase.TheVariants.{Idle, Writing};
 ghost use Rattle.held_objects.specs.Changes.{any};
-ghost use Rattle.vertex_ops.specs.Vertices.{KnowsVertex};
+ghost use Rattle.vertex_ops.specs.Vertices.{KnowsVertex, KnowsVertexWithSingle};
 
 use crate::keeping::Keeping;
-use gdi_kinds::Reply;
+use gdi_kinds::{Reply, Value};
 use object_store::{PlainStore, Store};
 use object_words::Words;
 use rma_layout::{DPtr, Geometry};
 use std::alloc::Global;
 use std::test::Fail;
-use vertex_ops::{clear, clear_label, keep, load, make, set_label};
+use vertex_ops::{clear, clear_label, clear_prop, keep, load, make, set_label, set_prop};
 
 /// The replies to a label that is set twice and cleared twice.
 #[derive(Debug, Drop)]
@@ -68,6 +68,43 @@ fn make_and_keep<S: Store<Keeping>>(
     Ok((replies, kept, words))
 }
 
+/// The replies to a property that is set twice, and to one that is cleared twice; and the words between them.
+#[derive(Debug, Drop)]
+struct PropReplies {
+    set: Reply,
+    set_again: Reply,
+    words: Words,
+    cleared: Reply,
+    cleared_again: Reply,
+}
+
+/// Sets a property of a labelled vertex to one value and then to another, and clears it twice.
+fn set_and_clear_prop<S: Store<Keeping>>(
+    alloc: Global,
+    store: &mut S,
+    id: u64,
+    prop: u32,
+    value: &Value,
+) -> Result<PropReplies, S::Refused>
+    requires { (S.state store.old).phase ≡ Idle }
+{
+    store.begin(true)?;
+    let at = make(alloc, store, id)?;
+    let set = set_prop(alloc, store, at, prop, &Value::Int(1))?;
+    let set_again = set_prop(alloc, store, at, prop, value)?;
+    let words = store.read(at)?;
+    let cleared = clear_prop(alloc, store, at, prop)?;
+    let cleared_again = clear_prop(alloc, store, at, prop)?;
+    store.abort();
+    Ok(PropReplies {
+        set,
+        set_again,
+        words,
+        cleared,
+        cleared_again,
+    })
+}
+
 /// Makes a vertex and empties its object.
 fn make_and_clear<S: Store<Keeping>>(
     alloc: Global,
@@ -106,5 +143,22 @@ fn emptied(rt: HostRuntime) -> Result<(), Fail> {
         return Err("refused".into());
     };
     assert!(rt; words.as_slice().is_empty());
+    Ok(())
+}
+
+#[test]
+fn properties(rt: HostRuntime) -> Result<(), Fail> {
+    let mut store = PlainStore::<Keeping>::new(rt.alloc(), Geometry::standard())?;
+    let Ok(found) = set_and_clear_prop(rt.alloc(), &mut store, 5, 0, &Value::Int(36)) else {
+        return Err("refused".into());
+    };
+    assert!(rt; matches!(&found.set, Reply::Done));
+    assert!(rt; matches!(&found.set_again, Reply::Done));
+    assert_eq!(rt;
+        found.words.as_slice(),
+        [5, 0, 0, 1, 0, 0, 8, 36].as_slice()
+    );
+    assert!(rt; matches!(&found.cleared, Reply::Done));
+    assert!(rt; matches!(&found.cleared_again, Reply::NoProp));
     Ok(())
 }

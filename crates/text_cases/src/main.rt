@@ -1,14 +1,17 @@
 //! Reads tables of texts, and prints how many of their lines hold: each text is read and printed, or refused, as its
 //! line tells. A line that doesn't hold is printed with its number.
 //!
-//! With a word it is the name of a script's file, which is read as a script and printed.
+//! With a word it is the name of a script's file, which is read as a script and printed. With a second word it is the name
+//! of an output's file, which is read as an output and printed.
 #![tactic(auto)]
 
+mod outputs;
 mod scripts;
 mod table;
 mod unescaped;
 
 use gdi_kinds::NoMemory;
+use outputs::output_again;
 use scripts::printed_again;
 use std::alloc::Global;
 use std::io::Write;
@@ -18,17 +21,32 @@ use table::{Table, holds};
 
 fn main(rt: HostRuntime) -> io::Result<()> {
     if let Some(name) = env::args(&rt)?.nth(1) {
-        return print_again(&rt, name.as_str());
+        return if env::args(&rt)?.nth(2).is_some() {
+            print_output_again(&rt, name.as_str())
+        } else {
+            print_again(&rt, name.as_str())
+        };
     }
     check(&rt, "scripts", Table::Scripts)?;
     check(&rt, "script_faults", Table::ScriptFaults)?;
-    check(&rt, "script_limits", Table::ScriptLimits)
+    check(&rt, "script_limits", Table::ScriptLimits)?;
+    check(&rt, "outputs", Table::Outputs)?;
+    check(&rt, "output_faults", Table::OutputFaults)
 }
 
 // Reads a file as a script and prints it.
 fn print_again<R: Files + Alloc<A = Global> + Print>(rt: &R, name: &str) -> io::Result<()> {
     let text = fs::read(rt, name)?;
     match printed_again(rt.alloc(), text.as_slice()) {
+        Ok(printed) => io::writer(rt).write_all(printed.as_slice()),
+        Err(refused) => println!(rt; "{refused:?}"),
+    }
+}
+
+// Reads a file as an output and prints it.
+fn print_output_again<R: Files + Alloc<A = Global> + Print>(rt: &R, name: &str) -> io::Result<()> {
+    let text = fs::read(rt, name)?;
+    match output_again(rt.alloc(), text.as_slice()) {
         Ok(printed) => io::writer(rt).write_all(printed.as_slice()),
         Err(refused) => println!(rt; "{refused:?}"),
     }

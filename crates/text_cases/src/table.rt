@@ -1,3 +1,4 @@
+use crate::outputs::{is_output_refused, keeps_output};
 use crate::scripts::{is_refused, keeps_script};
 use crate::unescaped::{push_unescaped, unescaped};
 use gdi_kinds::NoMemory;
@@ -15,6 +16,10 @@ pub(crate) enum Table {
     /// The same, with three texts behind the kind: the second stands as often between the others as the number in front
     /// of them says, and `|` between them.
     ScriptLimits,
+    /// An output that is printed as it stands.
+    Outputs,
+    /// The first wrong line and the text. A zero: the text is an output.
+    OutputFaults,
 }
 
 /// Whether a line of a table holds.
@@ -37,6 +42,14 @@ pub(crate) fn holds(alloc: Global, table: Table, line: &[u8]) -> Result<bool, No
             };
             let text = repeated(alloc, times, parts)?;
             Ok(is_refused(alloc, text.as_slice(), number, kind))
+        }
+        Table::Outputs => keeps_output(alloc, unescaped(alloc, line)?.as_slice()),
+        Table::OutputFaults => {
+            let Some((number, text)) = number_in(line) else {
+                return Ok(false);
+            };
+            let text = unescaped(alloc, text)?;
+            Ok(is_output_refused(alloc, text.as_slice(), number))
         }
     }
 }

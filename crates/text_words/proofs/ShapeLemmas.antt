@@ -56,7 +56,7 @@ HasShape (then sort form) (p ∷ parts) = IsOfSort sort p × HasShape form parts
 
 -- ---- one part
 
-value_same : (u v : Value) → IsValue u → IsValue v → value_text u ≡ value_text v → u ≡ v
+pub value_same : (u v : Value) → IsValue u → IsValue v → value_text u ≡ value_text v → u ≡ v
 value_same (value.Int (pos m)) (value.Int (pos n)) a b same = ap (λ (k : ℕ). value.Int (pos k)) (decimal_injective m n (omega (arith, a)) (omega (arith, b)) same)
 value_same (value.Int (pos m)) (value.Int (negsuc n)) a b same = absurd (no_digit 45 m (decimal (suc n)) (omega (arith, a)) refl same)
 value_same (value.Int (negsuc m)) (value.Int (pos n)) a b same = absurd (no_digit 45 n (decimal (suc m)) (omega (arith, b)) refl (sym same))

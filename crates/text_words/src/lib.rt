@@ -13,7 +13,7 @@ mod word_printer;
 mod wrong;
 
 pub use fields::{Field, Fields, read_fields};
-pub use line_words::{cut, opening_of};
+pub use line_words::{after_closing, behind_word, cut, opening_of};
 pub use lines::{first_line, position_of};
 pub use number::number_of;
 pub use test_printer::print_test;

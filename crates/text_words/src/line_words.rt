@@ -66,8 +66,9 @@ fn quoted_word<'a>(line: &'a [u8], quoted: &'a [u8]) -> Option<(&'a [u8], Option
     Some((&line[..line.len() - rest.len()], behind))
 }
 
-// What follows the closing quote.
-fn after_closing(quoted: &[u8]) -> Option<&[u8]>
+/// What follows the closing quote of a text that is quoted, from behind its first quote. There is nothing where no quote
+/// closes it, or another backslash stands in it than in front of a quote or a backslash.
+pub fn after_closing(quoted: &[u8]) -> Option<&[u8]>
     ensures { MatchOption result
         ((bytes rest : List ℕ) → quoted.now ≢ flat_map quoted_byte bytes ++ 34 ∷ rest)
         (λ rest. IsClosed quoted.now rest.now) }
@@ -84,8 +85,8 @@ fn after_closing(quoted: &[u8]) -> Option<&[u8]>
     }
 }
 
-// What follows the space behind a word, where one does. Nothing else follows a word.
-fn behind_word(rest: &[u8]) -> Option<Option<&[u8]>>
+/// What follows the space behind a word, where one does. Nothing else follows a word.
+pub fn behind_word(rest: &[u8]) -> Option<Option<&[u8]>>
     ensures { MatchOption result ((behind : Option (List ℕ)) → ¬ IsBehind rest.now behind) (λ behind. IsBehind rest.now (option_copied behind)) }
 {
     match rest {

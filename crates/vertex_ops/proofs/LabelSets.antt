@@ -1,16 +1,15 @@
 -- A vertex with a label more or less.
-use Rattle.std.proofs.Common.{◌≡◌, ◌≢◌, ◌∙◌, ℕ, ◌≤◌, ◌^◌, ◌<◌, Bool, true, false, cond, not, ◌||◌, eqb, List, [], ◌∷◌, ◌++◌, length, Option, Some, None, Result, Ok, Err, refl, sym, ap, subst, arith}
+use Rattle.std.proofs.Common.{◌≡◌, ◌≢◌, ◌∙◌, ℕ, ◌≤◌, ◌^◌, ◌<◌, true, false, cond, not, ◌||◌, eqb, List, [], ◌∷◌, length, Some, None, Result, Ok, Err, refl, sym, ap, subst, arith}
 use Rattle.std.specs.Prelude.{is_some, nat_lt, slice_get, IsTrue}
-use Rattle.std.specs.List.{insert, filter, AllByRecursion}
+use Rattle.std.specs.List.{insert, AllByRecursion}
 use Rattle.std.specs.Result.{MatchResult}
 use Rattle.std.specs.Ordering.{nat_cmp}
 use Rattle.std.specs.Cmp.{nat_cmp_total}
 use Rattle.std.specs.FinMap.{nat_cmp-IsAntisymmetric}
 use Rattle.std.specs.FinMap.Entries.{by_order}
-use Rattle.std.specs.declared.cmp.Ordering.{Ordering}
 use Rattle.std.specs.declared.cmp.Ordering.TheVariants.{Less, Equal, Greater}
 use Rattle.gdi_kinds.specs.declared.reply.Reply.TheVariants as reply
-use Rattle.graph_model.specs.Maps.{IsSet, has, add, take_out}
+use Rattle.graph_model.specs.Maps.{has, add, take_out}
 use Rattle.graph_model.proofs.Entries.{All-filter, IsSet-filter}
 use Rattle.graph_model.proofs.Sets.{is_eq-nat_cmp, AllByRecursion-add, IsSet-add}
 use Rattle.graph_model.specs.Sizes.{most_words, is_too_large}
@@ -18,10 +17,8 @@ use Rattle.std.proofs.lemmas.Bool.Decides.{nat_tests}
 use Rattle.holder_codec.specs.declared.vertex_holder.VertexHolder.{VertexHolder}
 use Rattle.holder_codec.specs.Order.{is_rising}
 use Rattle.holder_codec.specs.Vertex.{LabelFits, IsVertexHolder, vertex_words}
-use Rattle.holder_codec.specs.Reading.{vertex_of_words}
 use Rattle.rising_lists.specs.Rising.{item_of, with_item}
 use Rattle.rising_lists.proofs.Rising.{is_rising-with_item, is_rising-where, lt_by_nat_cmp}
-use Rattle.held_objects.specs.declared.change.Change.{Change}
 use Rattle.held_objects.specs.declared.change.Change.TheVariants.{Refused, Made}
 use Rattle.held_objects.specs.Changes.{IfMade, map_made}
 use Rattle.vertex_ops.specs.Vertices.{HeldVertex, holder_for, IsOrderly, tagged, untagged, with_labels}

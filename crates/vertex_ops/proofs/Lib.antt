@@ -1,2 +1,4 @@
 pub mod LabelSets
 pub mod Making
+pub mod PropLists
+pub mod Knows

@@ -1,18 +1,14 @@
 -- A new vertex.
-use Rattle.std.proofs.Common.{◌≡◌, ◌∙◌, ℕ, ◌≤◌, ◌<◌, ◌^◌, Bool, true, cond, List, [], length, Some, IsSome, refl, sym, ap, subst, inl, inr, arith}
-use Rattle.std.specs.Option.{unwrap_or}
-use Rattle.rma_layout.specs.Shape.{Shape}
+use Rattle.std.proofs.Common.{◌≡◌, ◌∙◌, ℕ, ◌≤◌, cond, List, [], length, IsSome, refl, sym, ap, subst, inl, inr, arith}
 use Rattle.rma_layout.specs.Placement.{Place, home_of}
-use Rattle.object_words.specs.Contents.{Contents, Agrees, IsByRisingObject, content_of, words_at, with_words, overlay}
+use Rattle.object_words.specs.Contents.{Contents, IsByRisingObject, content_of, words_at, overlay}
 use Rattle.object_words.proofs.Places.{in_order-with_words, place_ties_itself, words_at_here}
 use Rattle.graph_model.specs.Graph.{PropType}
 use Rattle.graph_model.specs.Sizes.{most_words}
 use Rattle.object_store.specs.State.{StoreState}
 use Rattle.object_store.specs.Calls.{MakesObject, MayWrite, WritesObject}
 use Rattle.object_store.proofs.Working.{content_put}
-use Rattle.holder_codec.specs.declared.vertex_holder.VertexHolder.{VertexHolder}
 use Rattle.holder_codec.specs.Vertex.{IsVertexHolder, vertex_words}
-use Rattle.holder_codec.specs.Represents.{IsUnreserved}
 use Rattle.vertex_ops.specs.Vertices.{HoldsVertex, Makes, bare, holder_for}
 
 pub few_bare : (id : ℕ) → length (vertex_words (holder_for (bare id []))) ≤ most_words
@@ -32,10 +28,19 @@ module _ {N : Type 0} {home : ℕ} {object : Place} {old mid : StoreState N} (di
     held = held_now;
     known = record {
       always = λ store may. record { part = bare id []; has = held_now store []; passed = refl };
-      ordered = subst IsByRisingObject (sym wrote.writes) (in_order-with_words mid.writes object (vertex_words (holder_for (bare id []))) ordered);
+      ordered = in_order;
+    };
+    single = λ number. record {
+      always = λ store may.
+          let has = held_now store [] in
+          record { part = bare id []; has = record { fits = record { orderly = has.fits; single = refl }; holder = has.holder; words = has.words; within = has.within }; passed = refl };
+      ordered = in_order;
     };
   }
     where
+      in_order : IsByRisingObject new.writes
+      in_order = subst IsByRisingObject (sym wrote.writes) (in_order-with_words mid.writes object (vertex_words (holder_for (bare id []))) ordered)
+
       now_here : (contents : Contents) → content_of (overlay contents new.writes) object ≡ vertex_words (holder_for (bare id []))
       now_here contents =
           ap (λ (w : Contents). content_of (overlay contents w) object) wrote.writes

@@ -1,21 +1,21 @@
 -- A vertex as its object holds it, and what the calls on it do.
-use Rattle.std.specs.Prelude.{◌≡◌, ◌≢◌, ◌≤◌, ℕ, Bool, true, false, not, List, [], length, if◌then◌else◌}
+use Rattle.std.specs.Prelude.{◌≡◌, ◌≤◌, ℕ, Bool, true, false, not, List, [], ◌∷◌, length, if◌then◌else◌}
 use Rattle.std.specs.List.{AllByRecursion}
 use Rattle.std.specs.Ordering.{nat_cmp}
 use Rattle.gdi_kinds.specs.declared.reply.Reply.TheVariants as reply
+use Rattle.gdi_kinds.specs.declared.value.Value.{Value}
 use Rattle.rma_layout.specs.Shape.{Shape}
 use Rattle.rma_layout.specs.Placement.{Place, home_of, IsBlock}
 use Rattle.object_words.specs.Contents.{Contents, Agrees, content_of, overlay}
-use Rattle.graph_model.specs.Maps.{IsMap, IsSet, has, add, take_out}
-use Rattle.graph_model.specs.Graph.{PropType, Vertex, new_vertex}
+use Rattle.graph_model.specs.Maps.{IsMap, IsSet, is_there, with_at, without, has, add, take_out}
+use Rattle.graph_model.specs.Graph.{PropType, Props, Vertex, new_vertex}
 use Rattle.graph_model.specs.Sizes.{is_too_large}
 use Rattle.object_store.specs.State.{StoreState}
-use Rattle.object_store.specs.Calls.{MayWrite}
 use Rattle.object_store.specs.Works.{Looks}
 use Rattle.holder_codec.specs.declared.edge_record.EdgeRecord.{EdgeRecord}
 use Rattle.holder_codec.specs.declared.vertex_holder.VertexHolder.{VertexHolder}
 use Rattle.holder_codec.specs.Vertex.{IsVertexHolder, vertex_words}
-use Rattle.holder_codec.specs.Holders.{held_props}
+use Rattle.holder_codec.specs.Holders.{is_marked_in, held_props}
 use Rattle.holder_codec.specs.Represents.{IsUnreserved}
 use Rattle.held_objects.specs.declared.change.Change.{Change}
 use Rattle.held_objects.specs.declared.change.Change.TheVariants.{Refused, Made}
@@ -62,6 +62,21 @@ IsHolding object holder shape contents = content_of contents object ≡ vertex_w
 abbrev pub IsEmptied : Place → Shape → Contents → Type 0
 IsEmptied object shape contents = content_of contents object ≡ []
 
+-- the same, where the type of a number isn't marked
+pub record IsOrderlyWithSingle (number : ℕ) (held : HeldVertex) : Type 0 where
+  pub orderly : IsOrderly held
+  pub single : is_marked_in held.types number ≡ false
+
+abbrev pub HoldsVertexWithSingle : ℕ → Place → Contents → HeldVertex → Type 0
+HoldsVertexWithSingle number object = IsHeldAs IsVertexHolder vertex_words holder_for (IsOrderlyWithSingle number) object
+
+abbrev pub KnowsVertexWithSingle : {N : Type 0} → ℕ → Place → (HeldVertex → Bool) → StoreState N → Type 0
+KnowsVertexWithSingle number object passes = Knows (Holds (HoldsVertexWithSingle number object) passes)
+
+-- whether the type of a number isn't marked
+abbrev pub is_single : ℕ → HeldVertex → Bool
+is_single number held = not (is_marked_in held.types number)
+
 -- ---- what the calls make of a vertex
 
 abbrev pub with_labels : List ℕ → HeldVertex → HeldVertex
@@ -76,6 +91,19 @@ abbrev pub untagged : ℕ → HeldVertex → Change HeldVertex
 untagged label held =
     if has held.vertex.labels label then Made (with_labels (take_out label held.vertex.labels) held)
     else Refused reply.LacksLabel
+
+abbrev pub with_props : Props → HeldVertex → HeldVertex
+with_props props held = record held { vertex = record held.vertex { props = props } }
+
+-- the values that were there are replaced
+abbrev pub valued : ℕ → Value → HeldVertex → Change HeldVertex
+valued number value held = Made (with_props (with_at held.vertex.props number (value ∷ [])) held)
+
+-- all values of a type go
+abbrev pub unvalued : ℕ → HeldVertex → Change HeldVertex
+unvalued number held =
+    if is_there held.vertex.props number then Made (with_props (without held.vertex.props number) held)
+    else Refused reply.NoProp
 
 -- a vertex without labels, properties and edges
 abbrev pub bare : ℕ → List PropType → HeldVertex
@@ -100,3 +128,4 @@ module _ {N : Type 0} where
     pub empty : (contents : Contents) → Agrees new.reads contents → content_of contents object ≡ []
     pub held : (contents : Contents) (types : List PropType) → HoldsVertex object (overlay contents new.writes) (bare id types)
     pub known : KnowsVertex object any new
+    pub single : (number : ℕ) → KnowsVertexWithSingle number object any new

@@ -27,6 +27,7 @@ use Rattle.window_rule.specs.Locks.{hold_of}
 use Rattle.window_rule.specs.Dirty.{dirt_of}
 use Rattle.window_rule.specs.HistoryHolds.{AreHeard, past_of, IsChronicle, chronicle_of}
 use Rattle.window_rule.specs.Objects.{IsKeptIn, ObjectsStand, LiesAt, AreThreaded, IsFreeList, number_to, first_of, tag_of}
+use Rattle.free_list.specs.Heads.{head_of}
 use Rattle.window_rule.specs.ContentsHold.{IsDirtOrNone, AreHeld, holdings_of, IsOwnKnown, AreCells, stash_of}
 use Rattle.window_rule.specs.MemoryHolds.{Remembers, memory_of}
 use Rattle.window_rule.specs.RoomHolds.{HasStock, stock_of}
@@ -64,46 +65,46 @@ AreWords-set shape words said after word new h is_word here elsewhere = record {
 }
 
 -- words that are all 0
-zero_said : (shape : Shape) (word : Word) → set_so_far shape 0 0 word ≡ 0
-zero_said shape (Lock object) = refl
-zero_said shape (Length object) = refl
-zero_said shape (FreeList block) = grind (arith, nat_tests)
-zero_said shape (Stamp object) = refl
-zero_said shape (Data block i) = refl
-zero_said shape (Head rank) = grind (arith, nat_tests)
-zero_said shape Gate = refl
-zero_said shape Commit = refl
+zero_said : (shape : Shape) (tag : ℕ) (word : Word) → set_so_far shape tag 0 0 word ≡ 0
+zero_said shape tag (Lock object) = refl
+zero_said shape tag (Length object) = refl
+zero_said shape tag (FreeList block) = grind (arith, nat_tests)
+zero_said shape tag (Stamp object) = refl
+zero_said shape tag (Data block i) = refl
+zero_said shape tag (Head rank) = grind (arith, nat_tests)
+zero_said shape tag Gate = refl
+zero_said shape tag Commit = refl
 
-pub AreWords-zero : (shape : Shape)
-    → AreWords shape (replicate (window_words shape) 0) (set_so_far shape 0 0)
-AreWords-zero shape = record {
+pub AreWords-zero : (shape : Shape) (tag : ℕ)
+    → AreWords shape (replicate (window_words shape) 0) (set_so_far shape tag 0 0)
+AreWords-zero shape tag = record {
   all = length-replicate (window_words shape) 0;
   each = λ word is_word. get_or-replicate (window_words shape) (number_of shape word) 0 0
-      (number_of-lt shape word is_word) ∙ sym (zero_said shape word);
+      (number_of-lt shape word is_word) ∙ sym (zero_said shape tag word);
 }
 
 -- one more head
-head_elsewhere : (shape : Shape) (heads : ℕ) (other : Word) → other ≢ Head heads
-    → set_so_far shape (heads + 1) 0 other ≡ set_so_far shape heads 0 other
-head_elsewhere shape heads (Lock object) ne = refl
-head_elsewhere shape heads (Length object) ne = refl
-head_elsewhere shape heads (FreeList block) ne = refl
-head_elsewhere shape heads (Stamp object) ne = refl
-head_elsewhere shape heads (Data block i) ne = refl
-head_elsewhere shape heads (Head rank) ne = let differ : rank ≢ heads = λ e. ne (ap Head e) in grind
+head_elsewhere : (shape : Shape) (tag : ℕ) (heads : ℕ) (other : Word) → other ≢ Head heads
+    → set_so_far shape tag (heads + 1) 0 other ≡ set_so_far shape tag heads 0 other
+head_elsewhere shape tag heads (Lock object) ne = refl
+head_elsewhere shape tag heads (Length object) ne = refl
+head_elsewhere shape tag heads (FreeList block) ne = refl
+head_elsewhere shape tag heads (Stamp object) ne = refl
+head_elsewhere shape tag heads (Data block i) ne = refl
+head_elsewhere shape tag heads (Head rank) ne = let differ : rank ≢ heads = λ e. ne (ap Head e) in grind
     (arith, nat_tests)
-head_elsewhere shape heads Gate ne = refl
-head_elsewhere shape heads Commit ne = refl
+head_elsewhere shape tag heads Gate ne = refl
+head_elsewhere shape tag heads Commit ne = refl
 
-pub AreWords-head : (shape : Shape) (words : List ℕ) (heads : ℕ) → heads < shape.ranks
-    → AreWords shape words (set_so_far shape heads 0)
-    → AreWords shape (set words (number_of shape (Head heads)) (first_head_word shape))
-    (set_so_far shape (heads + 1) 0)
-AreWords-head shape words heads below h =
-    AreWords-set shape words (set_so_far shape heads 0) (set_so_far shape (heads + 1) 0)
-    (Head heads) (first_head_word shape) h below
-    (ap (λ test. cond test (first_head_word shape) 0) (lt-ltb heads (heads + 1) (omega arith)))
-    (λ other is_other ne. head_elsewhere shape heads other ne)
+pub AreWords-head : (shape : Shape) (tag : ℕ) (words : List ℕ) (heads : ℕ) → heads < shape.ranks
+    → AreWords shape words (set_so_far shape tag heads 0)
+    → AreWords shape (set words (number_of shape (Head heads)) (first_head_word shape tag))
+    (set_so_far shape tag (heads + 1) 0)
+AreWords-head shape tag words heads below h =
+    AreWords-set shape words (set_so_far shape tag heads 0) (set_so_far shape tag (heads + 1) 0)
+    (Head heads) (first_head_word shape tag) h below
+    (ap (λ test. cond test (first_head_word shape tag) 0) (lt-ltb heads (heads + 1) (omega arith)))
+    (λ other is_other ne. head_elsewhere shape tag heads other ne)
 
 -- what is set below a place is set below the next one, but at that place
 order_moves : (order limit next : ℕ) → order ≢ limit
@@ -111,58 +112,58 @@ order_moves : (order limit next : ℕ) → order ≢ limit
 order_moves order limit next differ = grind (arith, nat_tests)
 
 -- one more block of a free list
-block_elsewhere : (shape : Shape) (heads : ℕ) (block : Place) (other : Word) → IsBlock shape block
+block_elsewhere : (shape : Shape) (tag : ℕ) (heads : ℕ) (block : Place) (other : Word) → IsBlock shape block
     → IsWord shape other → other ≢ FreeList block
-    → set_so_far shape heads (order_of shape block + 1) other ≡ set_so_far shape heads
+    → set_so_far shape tag heads (order_of shape block + 1) other ≡ set_so_far shape tag heads
     (order_of shape block) other
-block_elsewhere shape heads block (Lock object) is_block is_other ne = refl
-block_elsewhere shape heads block (Length object) is_block is_other ne = refl
-block_elsewhere shape heads block (FreeList other) is_block is_other ne =
+block_elsewhere shape tag heads block (Lock object) is_block is_other ne = refl
+block_elsewhere shape tag heads block (Length object) is_block is_other ne = refl
+block_elsewhere shape tag heads block (FreeList other) is_block is_other ne =
     let differ : order_of shape other ≢ order_of shape block = λ e. ne
     (same_from_number_of shape (FreeList other) (FreeList block) is_other is_block
     (ap (λ n. n * (shape.words + 4) + 2) e)) in
     order_moves (order_of shape other) (order_of shape block) (first_next shape other.block) differ
-block_elsewhere shape heads block (Stamp object) is_block is_other ne = refl
-block_elsewhere shape heads block (Data other i) is_block is_other ne = refl
-block_elsewhere shape heads block (Head rank) is_block is_other ne = refl
-block_elsewhere shape heads block Gate is_block is_other ne = refl
-block_elsewhere shape heads block Commit is_block is_other ne = refl
+block_elsewhere shape tag heads block (Stamp object) is_block is_other ne = refl
+block_elsewhere shape tag heads block (Data other i) is_block is_other ne = refl
+block_elsewhere shape tag heads block (Head rank) is_block is_other ne = refl
+block_elsewhere shape tag heads block Gate is_block is_other ne = refl
+block_elsewhere shape tag heads block Commit is_block is_other ne = refl
 
-pub AreWords-block : (shape : Shape) (words : List ℕ) (heads next : ℕ) (block : Place)
+pub AreWords-block : (shape : Shape) (tag : ℕ) (words : List ℕ) (heads next : ℕ) (block : Place)
     → IsBlock shape block → next ≡ order_of shape block + 1
-    → AreWords shape words (set_so_far shape heads (order_of shape block))
+    → AreWords shape words (set_so_far shape tag heads (order_of shape block))
     → AreWords shape (set words (number_of shape (FreeList block)) (first_next shape block.block))
-    (set_so_far shape heads next)
-AreWords-block shape words heads next block is_block next_is h =
-    AreWords-set shape words (set_so_far shape heads (order_of shape block))
-    (set_so_far shape heads next) (FreeList block) (first_next shape block.block) h is_block
+    (set_so_far shape tag heads next)
+AreWords-block shape tag words heads next block is_block next_is h =
+    AreWords-set shape words (set_so_far shape tag heads (order_of shape block))
+    (set_so_far shape tag heads next) (FreeList block) (first_next shape block.block) h is_block
     (ap (λ test. cond test (first_next shape block.block) 0)
     (lt-ltb (order_of shape block) next (omega arith)))
-    (λ other is_other ne. ap (λ n. set_so_far shape heads n other) next_is
-    ∙ block_elsewhere shape heads block other is_block is_other ne)
+    (λ other is_other ne. ap (λ n. set_so_far shape tag heads n other) next_is
+    ∙ block_elsewhere shape tag heads block other is_block is_other ne)
 
 -- once all are set
-all_said : (shape : Shape) (word : Word) → IsWord shape word
-    → set_so_far shape shape.ranks (shape.ranks * shape.blocks) word ≡ first_word_of shape word
-all_said shape (Lock object) h = refl
-all_said shape (Length object) h = refl
-all_said shape (FreeList block) h =
+all_said : (shape : Shape) (tag : ℕ) (word : Word) → IsWord shape word
+    → set_so_far shape tag shape.ranks (shape.ranks * shape.blocks) word ≡ first_word_of shape tag word
+all_said shape tag (Lock object) h = refl
+all_said shape tag (Length object) h = refl
+all_said shape tag (FreeList block) h =
     let below : order_of shape block < shape.ranks * shape.blocks = omega
     (arith, mul-add-lt block.rank shape.blocks block.block shape.ranks h.0 h.1) in
     ap (λ test. cond test (first_next shape block.block) 0)
     (lt-ltb (order_of shape block) (shape.ranks * shape.blocks) below)
-all_said shape (Stamp object) h = refl
-all_said shape (Data block i) h = refl
-all_said shape (Head rank) h = ap (λ test. cond test (first_head_word shape) 0)
+all_said shape tag (Stamp object) h = refl
+all_said shape tag (Data block i) h = refl
+all_said shape tag (Head rank) h = ap (λ test. cond test (first_head_word shape tag) 0)
     (lt-ltb rank shape.ranks h)
-all_said shape Gate h = refl
-all_said shape Commit h = refl
+all_said shape tag Gate h = refl
+all_said shape tag Commit h = refl
 
-pub AreWords-all : (shape : Shape) (words : List ℕ)
-    → AreWords shape words (set_so_far shape shape.ranks (shape.ranks * shape.blocks))
-    → AreWords shape words (first_word_of shape)
-AreWords-all shape words h =
-    record { all = h.all; each = λ word is_word. h.each word is_word ∙ all_said shape word is_word }
+pub AreWords-all : (shape : Shape) (tag : ℕ) (words : List ℕ)
+    → AreWords shape words (set_so_far shape tag shape.ranks (shape.ranks * shape.blocks))
+    → AreWords shape words (first_word_of shape tag)
+AreWords-all shape tag words h =
+    record { all = h.all; each = λ word is_word. h.each word is_word ∙ all_said shape tag word is_word }
 
 abbrev one_at : ℕ → ℕ → ℕ
 one_at right rank = cond (eqb right rank) 1 0
@@ -203,30 +204,30 @@ each_rank P f start (suc n) h = (
   each_rank P f (start + 1) n (λ rank low high. h rank (omega arith) (omega arith)),
 )
 
-note_from : (shape : Shape) (start n rank : ℕ) → start ≤ rank → rank < start + n
-    → note_of (map (first_note shape) (range_with_len start n)) rank ≡ Some (first_note shape rank)
-note_from shape start zero rank low high = absurd (omega arith)
-note_from shape start (suc n) rank low high =
+note_from : (shape : Shape) (tag : ℕ) (start n rank : ℕ) → start ≤ rank → rank < start + n
+    → note_of (map (first_note shape tag) (range_with_len start n)) rank ≡ Some (first_note shape tag rank)
+note_from shape tag start zero rank low high = absurd (omega arith)
+note_from shape tag start (suc n) rank low high =
     elim (cases_eq start rank) [
       | inl same ↦
           let test : (start == rank) ≡ true = grind (arith, nat_tests) in
-          ap (λ t. cond t (Some (first_note shape start))
-          (note_of (map (first_note shape) (range_with_len (start + 1) n)) rank)) test
-          ∙ ap (λ r. Some (first_note shape r)) same
+          ap (λ t. cond t (Some (first_note shape tag start))
+          (note_of (map (first_note shape tag) (range_with_len (start + 1) n)) rank)) test
+          ∙ ap (λ r. Some (first_note shape tag r)) same
       | inr ne ↦
           let test : (start == rank) ≡ false = grind (arith, nat_tests) in
-          ap (λ t. cond t (Some (first_note shape start))
-          (note_of (map (first_note shape) (range_with_len (start + 1) n)) rank)) test
-          ∙ note_from shape (start + 1) n rank (omega arith) (omega arith)
+          ap (λ t. cond t (Some (first_note shape tag start))
+          (note_of (map (first_note shape tag) (range_with_len (start + 1) n)) rank)) test
+          ∙ note_from shape tag (start + 1) n rank (omega arith) (omega arith)
     ]
 
 -- and it has noted each free list
-pub first_lists : {N : Type 0} (shape : Shape) (view : View N) → view ≡ first_view {N = N} shape
+pub first_lists : {N : Type 0} (shape : Shape) (tag : ℕ) (view : View N) → view ≡ first_view {N = N} shape tag
     → (rank : ℕ) → rank < shape.ranks
-    → note_of view.notes rank ≡ Some (first_note shape rank)
-first_lists shape view first rank below =
+    → note_of view.notes rank ≡ Some (first_note shape tag rank)
+first_lists shape tag view first rank below =
     ap (λ v. note_of v.notes rank) first
-    ∙ note_from shape 0 shape.ranks rank (omega arith) (omega arith)
+    ∙ note_from shape tag 0 shape.ranks rank (omega arith) (omega arith)
 
 some_rank : (ranks : ℕ) → 1 ≤ ranks → range_with_len 0 ranks ≢ []
 some_rank zero h e = omega arith
@@ -308,22 +309,22 @@ first_ground shape = record {
   opener = λ object. None;
 }
 
-no_dirt : (N : Type 0) (shape : Shape) (id : ℕ) (object : Place)
-    → dirt_of (get_or (dirts_of (first_view {N = N} shape ∷ [])) id []) object ≡ None
-no_dirt N shape zero object = refl
-no_dirt N shape (suc id) object = refl
+no_dirt : (N : Type 0) (shape : Shape) (tag : ℕ) (id : ℕ) (object : Place)
+    → dirt_of (get_or (dirts_of (first_view {N = N} shape tag ∷ [])) id []) object ≡ None
+no_dirt N shape tag zero object = refl
+no_dirt N shape tag (suc id) object = refl
 
-none_open : (N : Type 0) (shape : Shape) (id : ℕ) (object : Place)
-    → opened_of (get_or (opened_lists (first_view {N = N} shape ∷ [])) id []) object ≡ None
-none_open N shape zero object = refl
-none_open N shape (suc id) object = refl
+none_open : (N : Type 0) (shape : Shape) (tag : ℕ) (id : ℕ) (object : Place)
+    → opened_of (get_or (opened_lists (first_view {N = N} shape tag ∷ [])) id []) object ≡ None
+none_open N shape tag zero object = refl
+none_open N shape tag (suc id) object = refl
 
-first_only : {N A : Type 0} (shape : Shape) (part : View N → A) (Holds : ℕ → A → Type 0)
-    → Holds 0 (part (first_view {N = N} shape))
-    → EachView part Holds (first_view {N = N} shape ∷ [])
-first_only {N} shape part Holds h zero view there = subst (λ (v : View N). Holds 0 (part v))
-    (some-injective (first_view shape) view there) h
-first_only {N} shape part Holds h (suc id) view there = absurd (some-ne-none view (sym there))
+first_only : {N A : Type 0} (shape : Shape) (tag : ℕ) (part : View N → A) (Holds : ℕ → A → Type 0)
+    → Holds 0 (part (first_view {N = N} shape tag))
+    → EachView part Holds (first_view {N = N} shape tag ∷ [])
+first_only {N} shape tag part Holds h zero view there = subst (λ (v : View N). Holds 0 (part v))
+    (some-injective (first_view shape tag) view there) h
+first_only {N} shape tag part Holds h (suc id) view there = absurd (some-ne-none view (sym there))
 
 one_block : (per : ℕ) → 0 < per → blocks_for 0 per ≡ 1
 one_block per positive = let none : (0 + (per - 1)) / per < 1 = div_below
@@ -352,8 +353,11 @@ times_other object block true ne = let none : one_if (same_place object block) �
     (same_place-false object block (λ e. ne (sym e))) in omega arith
 times_other object block false ne = refl
 
-mod_small : (n : ℕ) → n ≤ 1048575 → n % 2 ^ 20 ≡ n
-mod_small n h = omega arith
+first_in_head : (tag block : ℕ) → block < 2 ^ 20 → first_of (head_of tag block) ≡ block
+first_in_head tag block h = omega arith
+
+tag_in_head : (tag block : ℕ) → block < 2 ^ 20 → tag_of (head_of tag block) ≡ tag
+tag_in_head tag block h = omega arith
 
 with_free : (inside low : Bool) (block : Place) (rank : ℕ)
     → one_if (inside && same_holder (cond low (Within block) (FreeOf block.rank)) (FreeOf rank))
@@ -375,8 +379,8 @@ with_object true true block object = refl
 with_object true false block object = refl
 with_object false low block object = refl
 
-module _ {N : Type 0} (fits : Shape → Entry N → Type 0) (shape : Shape) (words : List ℕ)
-    (in_range : IsInRange shape) (h : AreWords shape words (first_word_of shape)) where
+module _ {N : Type 0} (fits : Shape → Entry N → Type 0) (shape : Shape) (tag : ℕ)
+    (words : List ℕ) (in_range : IsInRange shape) (h : AreWords shape words (first_word_of shape tag)) where
   abbrev all : Words
   all = words_in shape words
 
@@ -384,9 +388,9 @@ module _ {N : Type 0} (fits : Shape → Entry N → Type 0) (shape : Shape) (wor
   ground = first_ground {N = N} shape
 
   abbrev views : List (View N)
-  views = first_view shape ∷ []
+  views = first_view shape tag ∷ []
 
-  is : (word : Word) → IsWord shape word → all word ≡ first_word_of shape word
+  is : (word : Word) → IsWord shape word → all word ≡ first_word_of shape tag word
   is word is_w = words_in-word shape words word is_w ∙ h.each word is_w
 
   chain_here : (object : Place) → IsBlock shape object → (b : Bool)
@@ -439,18 +443,20 @@ module _ {N : Type 0} (fits : Shape → Entry N → Type 0) (shape : Shape) (wor
   free_list rank true e =
       let below : rank < shape.ranks = ltb-true rank shape.ranks e in
       let reserved = reserved_blocks shape in
-      let small : reserved % 2 ^ 20 ≡ reserved = mod_small reserved
-      (omega (arith, in_range.blocks)) in
       record {
         first = ap first_of (is (Head rank) below) ∙ (elim (cases_lt reserved shape.blocks) [
           | inl some_free ↦
-              ap (λ t. first_of (cond t reserved 0)) (lt-ltb reserved shape.blocks some_free)
-              ∙ (small ∙ sym (number_of_first rank reserved (shape.blocks - reserved)
+              ap (λ t. first_of (head_of tag (cond t reserved 0)))
+              (lt-ltb reserved shape.blocks some_free)
+              ∙ (first_in_head tag reserved (omega (arith, in_range.blocks))
+              ∙ sym (number_of_first rank reserved (shape.blocks - reserved)
               ∙ ap (λ t. cond t reserved 0) (lt-ltb 0 (shape.blocks - reserved) (omega arith))))
           | inr none_free ↦
-              ap (λ t. first_of (cond t reserved 0)) (le-ltb reserved shape.blocks none_free)
+              ap (λ t. first_of (head_of tag (cond t reserved 0)))
+              (le-ltb reserved shape.blocks none_free)
+              ∙ (first_in_head tag 0 (omega arith)
               ∙ sym (number_of_first rank reserved (shape.blocks - reserved)
-              ∙ ap (λ t. cond t reserved 0) (le-ltb 0 (shape.blocks - reserved) (omega arith)))
+              ∙ ap (λ t. cond t reserved 0) (le-ltb 0 (shape.blocks - reserved) (omega arith))))
         ]);
         threaded = threaded_from shape (nexts_in all) rank reserved (shape.blocks - reserved)
             (omega arith) (omega (arith, in_range.blocks))
@@ -544,23 +550,25 @@ module _ {N : Type 0} (fits : Shape → Entry N → Type 0) (shape : Shape) (wor
         (lt-ltb block.block (reserved_blocks shape) low);
   }
 
-  -- the tag of each head is 0
-  low_tag : (rank : ℕ) → rank < shape.ranks → tag_of (heads_in all rank) ≤ 0
-  low_tag rank below =
-      let head = is (Head rank) below in
-      elim (cases_lt (reserved_blocks shape) shape.blocks) [
-        | inl some_free ↦ let first : first_head_word shape ≡ reserved_blocks shape = grind
-            (arith, nat_tests) in omega (arith, in_range.blocks)
-        | inr none_free ↦ let first : first_head_word shape ≡ 0 = grind (arith, nat_tests) in
-            omega arith
-      ]
+  -- each head has the tag
+  tag_is : (rank : ℕ) → rank < shape.ranks → tag_of (heads_in all rank) ≡ tag
+  tag_is rank below = ap tag_of (is (Head rank) below) ∙ (elim
+      (cases_lt (reserved_blocks shape) shape.blocks) [
+        | inl some_free ↦
+            ap (λ t. tag_of (head_of tag (cond t (reserved_blocks shape) 0)))
+            (lt-ltb (reserved_blocks shape) shape.blocks some_free)
+            ∙ tag_in_head tag (reserved_blocks shape) (omega (arith, in_range.blocks))
+        | inr none_free ↦
+            ap (λ t. tag_of (head_of tag (cond t (reserved_blocks shape) 0)))
+            (le-ltb (reserved_blocks shape) shape.blocks none_free) ∙ tag_in_head tag 0 (omega arith)
+      ])
 
   noted_first : (rank : ℕ) → 0 ≤ rank → rank < 0 + shape.ranks
-      → IsNoted (heads_in all) ground.free (first_note shape rank)
+      → IsNoted (heads_in all) ground.free (first_note shape tag rank)
   noted_first rank low high =
       let below : rank < shape.ranks = omega arith in
       let head = is (Head rank) below in
-      let same : tag_of (first_head_word shape) ≡ tag_of (heads_in all rank) = ap tag_of
+      let same : tag_of (first_head_word shape tag) ≡ tag_of (heads_in all rank) = ap tag_of
       (sym head) in record {
         tag = omega (arith, same);
         same = λ _. record {
@@ -577,16 +585,16 @@ module _ {N : Type 0} (fits : Shape → Entry N → Type 0) (shape : Shape) (wor
         arith,
         counts_one 0 shape.ranks rank (omega arith) (omega arith),
         sum_by-cons (λ (stake : Stake). right_count rank stake.rights)
-            (stake_of (first_view {N = N} shape)) [],
+            (stake_of (first_view {N = N} shape tag)) [],
       );
       are_ranks = λ id stake there. subst (λ (s : Stake). AreRanks shape.ranks s.rights)
-          (first_of_one (stake_of (first_view {N = N} shape)) stake id there)
+          (first_of_one (stake_of (first_view {N = N} shape tag)) stake id there)
           (are_ranks shape.ranks 0 shape.ranks (omega arith));
       few_commits = omega (arith, is Commit tt);
     };
     spent = λ id view there none. absurd
         (some_rank shape.ranks in_range.ranks.0
-        (ap (λ (v : View N). v.rights) (first_of_one (first_view {N = N} shape) view id there)
+        (ap (λ (v : View N). v.rights) (first_of_one (first_view {N = N} shape tag) view id there)
         ∙ none));
     locks = record {
       counted = λ object block.
@@ -602,10 +610,10 @@ module _ {N : Type 0} (fits : Shape → Entry N → Type 0) (shape : Shape) (wor
     gate = record { word_is = is Gate tt; apart = λ some. absurd (omega arith) };
     history = record {
       counted = is Commit tt;
-      held = (0, first_view shape, refl, refl);
-      each = first_only {N = N} shape (chronicle_of {N = N}) (λ _. IsChronicle [])
+      held = (0, first_view shape tag, refl, refl);
+      each = first_only {N = N} shape tag (chronicle_of {N = N}) (λ _. IsChronicle [])
           (record { begins = ([], refl); own = refl; rest = tt });
-      heard = first_only {N = N} shape (past_of {N = N}) (λ _. AreHeard) tt;
+      heard = first_only {N = N} shape tag (past_of {N = N}) (λ _. AreHeard) tt;
       legal = record { maps = All-nil HasMaps; reads = tt; blocks = λ _. tt };
       fitting = tt;
       ranked = tt;
@@ -619,29 +627,30 @@ module _ {N : Type 0} (fits : Shape → Entry N → Type 0) (shape : Shape) (wor
     blocks = parted;
     contents = λ object block none. refl;
     dirt = λ id object. subst (IsDirtOrNone [] (ground.objects object) id)
-        (sym (no_dirt N shape id object)) (λ e. cc e);
-    holdings = first_only {N = N} shape (holdings_of {N = N}) (λ _. AreHeld ground.objects)
+        (sym (no_dirt N shape tag id object)) (λ e. cc e);
+    holdings = first_only {N = N} shape tag (holdings_of {N = N}) (λ _. AreHeld ground.objects)
         (record {
           read = λ object reading e. absurd (cc e);
           marked = λ object dirt e. absurd (cc e);
         });
-    own = first_only {N = N} shape (λ (v : View N). v.private)
+    own = first_only {N = N} shape tag (λ (v : View N). v.private)
         (λ _. AllByRecursion (IsOwnKnown (nexts_in all))) tt;
-    memory = first_only {N = N} shape (memory_of {N = N}) (λ _. Remembers shape)
+    memory = first_only {N = N} shape tag (memory_of {N = N}) (λ _. Remembers shape)
         (λ object known e. absurd (cc e));
-    cells = first_only {N = N} shape (stash_of {N = N}) (λ _. AreCells (data_in all))
+    cells = first_only {N = N} shape tag (stash_of {N = N}) (λ _. AreCells (data_in all))
         (λ block i word has e. absurd (cc e));
-    room = first_only {N = N} shape (stock_of {N = N}) (λ _. HasStock shape)
+    room = first_only {N = N} shape tag (stock_of {N = N}) (λ _. HasStock shape)
         (λ rank. omega (arith, sum_below-zero shape.blocks));
-    notes = first_only {N = N} shape (notebook_of {N = N})
+    notes = first_only {N = N} shape tag (notebook_of {N = N})
         (λ _. AreNoted shape (heads_in all) ground.free) (record {
           notes = each_rank (IsNoted (heads_in all) ground.free)
-              (first_note shape) 0 shape.ranks noted_first;
+              (first_note shape tag) 0 shape.ranks noted_first;
           alone = λ alone. record {
             now = each_rank (λ note. note.head ≡ heads_in all note.rank)
-                (first_note shape) 0 shape.ranks (λ rank low high. sym (is (Head rank) (omega arith)));
+                (first_note shape tag) 0 shape.ranks (λ rank low high. sym (is (Head rank) (omega arith)));
             bounds = each_rank (λ one. tag_of (heads_in all one.0) ≤ one.1)
-                (λ rank. (rank, 0)) 0 shape.ranks (λ rank low high. low_tag rank (omega arith));
+                (λ rank. (rank, tag)) 0 shape.ranks
+                (λ rank low high. omega (arith, tag_is rank (omega arith)));
           };
         });
     stamps = record {
@@ -649,8 +658,8 @@ module _ {N : Type 0} (fits : Shape → Entry N → Type 0) (shape : Shape) (wor
       closed = λ object block none. ap (λ n. n % 2) (is (Stamp object) block);
       odd = λ object id block e. absurd (cc e);
       opened = λ id object is_b. subst (IsOpened (all Commit) (all (Stamp object)) id None)
-          (sym (none_open N shape id object)) (λ e. cc e);
-      each = first_only {N = N} shape (open_state_of {N = N}) (λ _. IsOpenState)
+          (sym (none_open N shape tag id object)) (λ e. cc e);
+      each = first_only {N = N} shape tag (open_state_of {N = N}) (λ _. IsOpenState)
           (record {
             marked = λ object written e. absurd (cc e);
             dirty = λ object dirt e. absurd (cc e);
@@ -659,27 +668,28 @@ module _ {N : Type 0} (fits : Shape → Entry N → Type 0) (shape : Shape) (wor
   }
 
 pub opening_is_lawful : {S N : Type 0} (fits : Shape → Entry N → Type 0) (shape : Shape)
-    (words : List ℕ) → IsInRange shape
-    → AreWords shape words (first_word_of shape)
-    → IsRuled fits shape (opening {S = S} words [] (first_view {N = N} shape))
-opening_is_lawful {S} {N} fits shape words in_range h = record {
+    (tag : ℕ) (words : List ℕ) → IsInRange shape
+    → AreWords shape words (first_word_of shape tag)
+    → IsRuled fits shape (opening {S = S} words [] (first_view {N = N} shape tag))
+opening_is_lawful {S} {N} fits shape tag words in_range h = record {
   sized = h.all;
   lawful = record {
     ground = first_ground {N = N} shape;
-    holds = opening_holds {N = N} fits shape words in_range h;
+    holds = opening_holds {N = N} fits shape tag words in_range h;
   };
 }
 
 -- the view that a window begins with is live
-pub first_is_live : {N : Type 0} (shape : Shape) (view : View N) → IsInRange shape
-    → view ≡ first_view {N = N} shape → view.rights ≢ []
-first_is_live {N} shape view in_range first none =
+pub first_is_live : {N : Type 0} (shape : Shape) (tag : ℕ) (view : View N) → IsInRange shape
+    → view ≡ first_view {N = N} shape tag → view.rights ≢ []
+first_is_live {N} shape tag view in_range first none =
     some_rank shape.ranks in_range.ranks.0 (sym (ap (λ (v : View N). v.rights) first) ∙ none)
 
 -- and alone
-pub first_is_alone : {N : Type 0} (shape : Shape) (view : View N) → view ≡ first_view {N = N} shape
+pub first_is_alone : {N : Type 0} (shape : Shape) (tag : ℕ) (view : View N)
+    → view ≡ first_view {N = N} shape tag
     → IsAlone shape view
-first_is_alone {N} shape view first rank below =
+first_is_alone {N} shape tag view first rank below =
     let same : right_count rank view.rights ≡ right_count rank (range_with_len 0 shape.ranks) = ap
     (λ (v : View N). right_count rank v.rights) first in
     omega (arith, counts_one 0 shape.ranks rank (omega arith) (omega arith))

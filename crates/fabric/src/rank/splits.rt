@@ -1,19 +1,15 @@
-//! A rank is split in two, and two ranks are joined.
-ghost use Rattle.std.specs.Prelude.{◌≡◌, ◌≢◌, ◌≤◌, [], IfOk, MatchResult};
+//! A rank is split in two.
+ghost use Rattle.std.specs.Prelude.{◌≡◌, ◌<◌, [], IfOk, MatchResult};
 ghost use Rattle.window_rule.specs.Spares.{HasNone};
-ghost use Rattle.window_rule.specs.HistoryHolds.{AreHeard, past_of};
-ghost use Rattle.rma_layout.specs.Placement.{Place};
-ghost use Rattle.window_rule.specs.Partition.{places_of, times};
-ghost use Rattle.window_rule.specs.Splits.{IsIdle, MaySplit, joined, parted, remaining, settled};
+ghost use Rattle.window_rule.specs.Splits.{MaySplit, parted, remaining};
 
-use crate::plays::{Cut, Cutting, Joint};
+use crate::plays::{Cut, Cutting};
 use crate::rank::{Rank, no_spares};
 use crate::view::View;
 use crate::window::Window;
 use atomic_table::Seat;
 use gdi_kinds::NoMemory;
 use object_words::Law;
-use rma_layout::Word;
 use std::alloc::Global;
 use std::marker::Brand;
 
@@ -38,10 +34,11 @@ impl<L: Law> Rank<L> {
         ensures right { IfOk result (λ rank. (rank.window ≡ self.old.window) ×
             (rank.view ≡ parted r commits self.old.view) × HasNone rank.spares) }
     {
+        let rights = self.one_right(alloc, r)?;
         let firsts = no_spares(alloc)?;
         let lasts = no_spares(alloc)?;
         let seat = self.cut::<Brand>(window, r, commits);
-        Ok(Rank::seated(seat, window.geometry(), firsts, lasts))
+        Ok(Rank::seated(seat, window.geometry(), rights, firsts, lasts))
     }
 
     /// The seat of the new rank.
@@ -60,41 +57,9 @@ impl<L: Law> Rank<L> {
         ensures left { self.new.view ≡ remaining r commits self.old.view }
         ensures right { result.me ≡ (parted r commits self.old.view, []) }
     {
-        let _cut = (r, commits);
-        window.table.shared.split_seat::<Cut<T>>(&mut self.seat)
-    }
-
-    /// Takes in another rank of the window, which has no lock and no place in the gate.
-    pub fn join(&mut self, window: &Window<L>, other: Rank<L>)
-        requires window { (self.old.window ≡ window.now) × (other.window ≡ window.now) }
-        requires idle { IsIdle other.view }
-        ensures window { self.new.window ≡ self.old.window }
-        ensures spares { self.new.spares ≡ self.old.spares }
-        ensures view { self.new.view ≡ settled (joined self.old.view other.view) }
-        ensures heard { AreHeard (past_of (joined self.old.view other.view)) }
-        ensures once { (block : Place) → times block (places_of (joined self.old.view other.view).private) ≤ 1 }
-    {
-        let Rank {
-            seat,
-            geometry: _,
-            firsts: _,
-            lasts: _,
-        } = other;
-        self.take_in(window, seat);
-        self.load::<Brand>(window, Word::Commit);
-    }
-
-    /// Takes in the view of a seat.
-    fn take_in(&mut self, window: &Window<L>, other: Seat<(), View<L::Note>>)
-        requires window { (self.old.window ≡ window.now) × (other.table_id ≡ window.now.id) }
-        requires idle { (other.me.1 ≡ []) × IsIdle other.me.0 }
-        ensures window { self.new.window ≡ self.old.window }
-        ensures spares { self.new.spares ≡ self.old.spares }
-        ensures view { self.new.view ≡ joined self.old.view other.me.0 }
-    {
-        window
-            .table
-            .shared
-            .join_seat::<Joint>(&mut self.seat, other);
+        let _commits = commits;
+        let seat = window.table.shared.split_seat::<Cut<T>>(&mut self.seat);
+        self.rights[r as usize] = false;
+        seat
     }
 }

@@ -1,14 +1,16 @@
 //! The operations on one word, each once. What a call tells is picked by the call.
-ghost use Rattle.std.specs.Prelude.{◌≡◌, ℕ, ◌+◌, ◌-◌, ◌%◌, ◌^◌, ◌==◌};
+ghost use Rattle.std.specs.Prelude.{◌≡◌, ◌≢◌, [], ℕ, ◌+◌, ◌-◌, ◌%◌, ◌^◌, ◌==◌};
 ghost use prog.Atomic.{either};
 ghost use Rattle.rma_layout.specs.Words.{IsWord};
-ghost use Rattle.window_rule.specs.View.{View};
+ghost use Rattle.window_rule.specs.View.{View as ViewModel};
 ghost use Rattle.window_rule.specs.Permits.{Permits};
 ghost use Rattle.window_rule.specs.Trails.{SparesStay};
 
 use crate::plays::{Step, Telling};
 use crate::rank::Rank;
+use crate::view::View;
 use crate::window::Window;
+use atomic_table::Seat;
 use object_words::Law;
 use rma_layout::Word;
 
@@ -18,7 +20,7 @@ impl<L: Law> Rank<L> {
         requires window { self.old.window ≡ window.now }
         requires word { IsWord window.now.shape word }
         requires permits { Permits L.fits window.now.shape word (λ found. found) self.old.view (T.told self.old.view) }
-        requires spares { (found : ℕ) (after : View L.Note) → T.told self.old.view found after →
+        requires spares { (found : ℕ) (after : ViewModel L.Note) → T.told self.old.view found after →
             SparesStay window.now.shape self.old.spares self.old.view after }
         ensures window { self.new.window ≡ self.old.window }
         ensures spares { self.new.spares ≡ self.old.spares }
@@ -33,7 +35,7 @@ impl<L: Law> Rank<L> {
         requires window { self.old.window ≡ window.now }
         requires word { IsWord window.now.shape word }
         requires permits { Permits L.fits window.now.shape word (λ _. new) self.old.view (λ _. T.told self.old.view new) }
-        requires spares { (after : View L.Note) → T.told self.old.view new after →
+        requires spares { (after : ViewModel L.Note) → T.told self.old.view new after →
             SparesStay window.now.shape self.old.spares self.old.view after }
         ensures window { self.new.window ≡ self.old.window }
         ensures spares { self.new.spares ≡ self.old.spares }
@@ -56,7 +58,7 @@ impl<L: Law> Rank<L> {
         requires window { self.old.window ≡ window.now }
         requires word { IsWord window.now.shape word }
         requires permits { Permits L.fits window.now.shape word (λ found. (found + k) % 2 ^ 64) self.old.view (T.told self.old.view) }
-        requires spares { (found : ℕ) (after : View L.Note) → T.told self.old.view found after →
+        requires spares { (found : ℕ) (after : ViewModel L.Note) → T.told self.old.view found after →
             SparesStay window.now.shape self.old.spares self.old.view after }
         ensures window { self.new.window ≡ self.old.window }
         ensures spares { self.new.spares ≡ self.old.spares }
@@ -80,7 +82,7 @@ impl<L: Law> Rank<L> {
         requires window { self.old.window ≡ window.now }
         requires word { IsWord window.now.shape word }
         requires permits { Permits L.fits window.now.shape word (λ found. (found + k) % 2 ^ 64) self.old.view (T.told self.old.view) }
-        requires spares { (found : ℕ) (after : View L.Note) → T.told self.old.view found after →
+        requires spares { (found : ℕ) (after : ViewModel L.Note) → T.told self.old.view found after →
             SparesStay window.now.shape self.old.spares self.old.view after }
         ensures window { self.new.window ≡ self.old.window }
         ensures spares { self.new.spares ≡ self.old.spares }
@@ -100,7 +102,7 @@ impl<L: Law> Rank<L> {
         requires window { self.old.window ≡ window.now }
         requires word { IsWord window.now.shape word }
         requires permits { Permits L.fits window.now.shape word (λ found. (found + (2 ^ 64 - k)) % 2 ^ 64) self.old.view (T.told self.old.view) }
-        requires spares { (found : ℕ) (after : View L.Note) → T.told self.old.view found after →
+        requires spares { (found : ℕ) (after : ViewModel L.Note) → T.told self.old.view found after →
             SparesStay window.now.shape self.old.spares self.old.view after }
         ensures window { self.new.window ≡ self.old.window }
         ensures spares { self.new.spares ≡ self.old.spares }
@@ -124,7 +126,7 @@ impl<L: Law> Rank<L> {
         requires window { self.old.window ≡ window.now }
         requires word { IsWord window.now.shape word }
         requires permits { Permits L.fits window.now.shape word (λ found. either (found == old) new found) self.old.view (T.told self.old.view) }
-        requires spares { (found : ℕ) (after : View L.Note) → T.told self.old.view found after →
+        requires spares { (found : ℕ) (after : ViewModel L.Note) → T.told self.old.view found after →
             SparesStay window.now.shape self.old.spares self.old.view after }
         ensures window { self.new.window ≡ self.old.window }
         ensures spares { self.new.spares ≡ self.old.spares }
@@ -136,4 +138,23 @@ impl<L: Law> Rank<L> {
             .shared
             .compare_exchange::<Step<T>>(&mut self.seat, number, old, new)
     }
+}
+
+/// Stores a word, by a seat that is no rank's.
+pub(super) fn store_by<L: Law, T: Telling<L::Note>>(
+    window: &Window<L>,
+    seat: &mut Seat<(), View<L::Note>>,
+    word: Word,
+    new: u64,
+)
+    requires table { seat.old.table_id ≡ window.now.id }
+    requires live { seat.old.me.0.rights ≢ [] }
+    requires word { IsWord window.now.shape word }
+    requires permits { Permits L.fits window.now.shape word (λ _. new) seat.old.me.0 (λ _. T.told seat.old.me.0 new) }
+    ensures table { seat.new.table_id ≡ seat.old.table_id }
+    ensures slots { seat.new.me.1 ≡ seat.old.me.1 }
+    ensures told { T.told seat.old.me.0 new seat.new.me.0 }
+{
+    let number = window.number(word);
+    window.table.shared.store::<Step<T>>(seat, number, new);
 }

@@ -1,17 +1,20 @@
-ghost use Rattle.std.specs.Prelude.{◌≡◌, ◌≤◌, ◌*◌, ◌+◌, OnOk, IfOk};
-ghost use Rattle.std.specs.Option.{option_copied};
+ghost use Rattle.std.specs.Prelude.{◌≡◌, ◌≤◌, ◌*◌, ◌+◌, OnOk, IfOk, MatchResult, Ok, Err, Some};
+ghost use Rattle.std.specs.Option.{option_copied, option_to_list};
 ghost use Rattle.std.specs.List.{position};
 ghost use Rattle.std.specs.Str.{bytes_eq};
 ghost use Rattle.gdi_kinds.specs.Constraint.{kind_of, same_kind};
 ghost use Rattle.graph_model.specs.Maps.{item_at};
-ghost use Rattle.graph_model.specs.Graph.{vertex_at};
+ghost use Rattle.graph_model.specs.Graph.{vertex_at, edge_at};
+ghost use Rattle.graph_model.specs.EdgeCalls.{edge_or_refusal, label_if_named};
 ghost use Rattle.graph_model.specs.Lookups.{label_number, type_number, kind_at, is_marked};
 ghost use Rattle.graph_model.specs.Sizes.{records_at};
 
 use super::PlainGraph;
+use crate::held_edge::HeldEdge;
 use crate::held_type::HeldType;
 use crate::held_vertex::HeldVertex;
-use gdi_kinds::{Kind, Name, Value};
+use edge_index::EdgeKey;
+use gdi_kinds::{Kind, Name, NoMemory, Reply, Value};
 
 // What a call looks up before it answers.
 impl PlainGraph {
@@ -66,12 +69,49 @@ impl PlainGraph {
     }
 
     /// How many ends of edges are at a vertex.
-    pub(super) fn records(&self, _id: u64) -> u64
-        ensures value { result ≡ records_at self.now.graph _id }
-        ensures within { result ≤ 1048576 }
+    pub(super) fn records(&self, id: u64) -> Result<u64, NoMemory>
+        ensures { IfOk result (λ records. records ≡ records_at self.now.graph id) }
     {
-        let _ = &self.vertices;
-        0
+        if self.torn {
+            return Err(NoMemory);
+        }
+        Ok(self.outgoing.count(id) + self.incoming.count(id))
+    }
+
+    /// An edge.
+    pub(super) fn edge(&self, source: u64, ordinal: u64) -> Option<&HeldEdge>
+        ensures { option_copied result ≡ edge_at self.now.graph source ordinal }
+    {
+        self.edges.get(&EdgeKey::new(source, ordinal))
+    }
+
+    /// An edge, or the refusal of a call on it.
+    pub(super) fn edge_or_refusal(&self, source: u64, ordinal: u64) -> Result<&HeldEdge, Reply>
+        ensures steps { MatchResult result (λ edge. Ok edge.now ≡ edge_or_refusal self.now.graph source ordinal)
+            (λ refusal. Err refusal ≡ edge_or_refusal self.now.graph source ordinal) }
+        ensures there { IfOk result (λ edge. edge_at self.now.graph source ordinal ≡ Some edge.now) }
+    {
+        if self.vertex(source).is_none() {
+            return Err(Reply::NoVertex(source));
+        }
+        match self.edge(source, ordinal) {
+            Some(edge) => Ok(edge),
+            None => Err(Reply::NoEdge),
+        }
+    }
+
+    /// The number of a label that may be named, or the refusal of a call with it.
+    pub(super) fn label_if_named(&self, name: &Option<Name>) -> Result<Option<u32>, Reply>
+        ensures { MatchResult result (λ label. Ok (option_to_list label) ≡ label_if_named self.now.graph name.now)
+            (λ refusal. Err refusal ≡ label_if_named self.now.graph name.now) }
+    {
+        let Some(name) = name else {
+            return Ok(None);
+        };
+        match self.label_number(name) {
+            Some(label) => Ok(Some(label)),
+            None => Err(Reply::NoLabel),
+        }
     }
 }
 

@@ -1,5 +1,6 @@
 ghost use Rattle.std.specs.Prelude.{◌≡◌, ◌+◌, ◌*◌, ◌<◌, ◌≤◌, ◌^◌, IfOk};
 ghost use Rattle.gdi_kinds.specs.declared.call.Call.TheVariants as call;
+ghost use Rattle.graph_model.specs.Sizes.{is_too_large};
 ghost use Rattle.graph_model.specs.VertexCalls.{reply_of_values};
 ghost use Rattle.plain_graph.specs.Plain.{Answers};
 
@@ -30,7 +31,7 @@ impl PlainGraph {
             return Ok(Reply::WrongKind);
         }
         let props = vertex.props().words_with(ty, value);
-        if words_of_vertex(vertex.label_count(), props, self.records(id)) > MOST_WORDS {
+        if is_vertex_too_large(vertex.label_count(), props, self.records(id)?) {
             return Ok(Reply::TooLarge);
         }
         let copy = value.copy(self.alloc())?;
@@ -60,7 +61,7 @@ impl PlainGraph {
             return Ok(Reply::NotMany);
         }
         let props = vertex.props().words_adding(ty, value);
-        if words_of_vertex(vertex.label_count(), props, self.records(id)) > MOST_WORDS {
+        if is_vertex_too_large(vertex.label_count(), props, self.records(id)?) {
             return Ok(Reply::TooLarge);
         }
         let copy = value.copy(self.alloc())?;
@@ -102,13 +103,17 @@ impl PlainGraph {
     }
 
     // The allocator that `new` was given.
-    fn alloc(&self) -> Global {
+    pub(super) fn alloc(&self) -> Global {
         self.alloc
     }
 }
 
 // The values of a marked type as a list, and else the one value that there is.
-fn reply_of_values(alloc: Global, marked: bool, values: &ValueList) -> Result<Reply, NoMemory>
+pub(super) fn reply_of_values(
+    alloc: Global,
+    marked: bool,
+    values: &ValueList,
+) -> Result<Reply, NoMemory>
     ensures { IfOk result (λ reply. reply ≡ reply_of_values marked values.now) }
 {
     if marked {
@@ -120,12 +125,11 @@ fn reply_of_values(alloc: Global, marked: bool, values: &ValueList) -> Result<Re
     }
 }
 
-// The words of a vertex with so many labels, words of properties, and records of edges.
-pub(super) fn words_of_vertex(labels: u64, props: u64, records: u64) -> u64
+// Whether a vertex with so many labels, words of properties, and records of edges would be longer than an object may be.
+pub(super) fn is_vertex_too_large(labels: u64, props: u64, records: u64) -> bool
     requires labels { labels ≤ 2 ^ 63 }
     requires props { props ≤ 1048676 }
-    requires records { records ≤ 1048576 }
-    ensures { result ≡ 5 + labels + props + 5 * records }
+    ensures { result ≡ is_too_large (5 + labels + props + 5 * records) }
 {
-    5 + labels + props + 5 * records
+    records > MOST_WORDS || 5 + labels + props + 5 * records > MOST_WORDS
 }

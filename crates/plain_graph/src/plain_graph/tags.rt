@@ -8,7 +8,7 @@ ghost use Rattle.graph_model.specs.VertexCalls.{with_vertex};
 ghost use Rattle.plain_graph.specs.Plain.{Answers};
 
 use super::PlainGraph;
-use super::props::words_of_vertex;
+use super::props::is_vertex_too_large;
 use crate::ModelRefused;
 use gdi_kinds::{Name, NoMemory, Reply};
 use rma_layout::MOST_WORDS;
@@ -32,8 +32,7 @@ impl PlainGraph {
             return Ok(Reply::HasLabel);
         }
         let labels = vertex.label_count_with(label);
-        let words = words_of_vertex(labels, vertex.props().words(), self.records(id));
-        if words > MOST_WORDS {
+        if is_vertex_too_large(labels, vertex.props().words(), self.records(id)?) {
             return Ok(Reply::TooLarge);
         }
         if self.is_slot_full(label, id)? {

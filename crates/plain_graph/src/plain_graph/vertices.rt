@@ -1,12 +1,13 @@
 ghost use Rattle.std.specs.Prelude.{◌≡◌, ◌≤◌, ◌++◌, [], ◌∷◌, Some, IsSome, IfOk, OnOk};
 ghost use Rattle.gdi_kinds.specs.declared.call.Call.TheVariants as call;
+ghost use Rattle.std.specs.List.{AllByRecursion};
 ghost use Rattle.graph_model.specs.Maps.{with_at, without};
 ghost use Rattle.graph_model.specs.Graph.{Vertex, vertex_at};
 ghost use Rattle.graph_model.specs.Lookups.{values_at};
 ghost use Rattle.graph_model.specs.Sizes.{words_of_props};
 ghost use Rattle.graph_model.specs.VertexCalls.{with_vertex};
 ghost use Rattle.graph_model.specs.Calls.{reply_to};
-ghost use Rattle.plain_graph.specs.Plain.{Answers};
+ghost use Rattle.plain_graph.specs.Plain.{Answers, IsApart};
 
 use super::PlainGraph;
 use crate::ModelRefused;
@@ -55,11 +56,23 @@ impl PlainGraph {
         ensures shape { self.new.shape ≡ self.old.shape }
         ensures answer { IfOk result (Answers self.old (call.DropVertex id) self.new) }
     {
-        if !self.vertices.contains_key(&id) {
+        let Some(_vertex) = self.vertex(id) else {
             return Ok(Reply::NoVertex(id));
-        }
+        };
+        self.cut_edges_at(id)?;
+        self.take_vertex(id)?;
+        Ok(Reply::Done)
+    }
+
+    // Takes out a vertex that has no edges.
+    fn take_vertex(&mut self, id: u64) -> Result<(), NoMemory>
+        requires there { IsSome (vertex_at self.old.graph id) }
+        requires alone { AllByRecursion (IsApart id) self.old.graph.edges }
+        ensures shape { self.new.shape ≡ self.old.shape }
+        ensures graph { OnOk result (self.new.graph ≡ (record self.old.graph { vertices = without self.old.graph.vertices id })) }
+    {
         if self.torn {
-            return Err(ModelRefused::NoMemory);
+            return Err(NoMemory);
         }
         let bucket = self.geometry.bucket(id).raw();
         self.torn = true;
@@ -69,7 +82,7 @@ impl PlainGraph {
         vertex.uncount_labels(&self.geometry, id, &mut self.slot_counts)?;
         self.bucket_counts.lower(bucket)?;
         self.torn = false;
-        Ok(Reply::Done)
+        Ok(())
     }
 
     /// Gives a property of a vertex this value alone.

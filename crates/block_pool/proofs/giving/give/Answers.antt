@@ -1,11 +1,13 @@
-use Rattle.std.proofs.Common.{◌≡◌, ◌+◌, ◌<◌, ◌^◌, sym, ap, ◌∙◌, subst, refl, inl, inr, arith}
+use Rattle.std.proofs.Common.{◌≡◌, ◌+◌, ◌<◌, ◌^◌, sym, ap, ◌∙◌, subst, refl, inl, inr, arith, Some}
 use Rattle.window_rule.specs.Pool.{MayBeFree}
 use Rattle.window_rule.specs.Spares.{HasSpares, first_spare_of}
 use Rattle.window_rule.specs.Trails.{trail_of}
 use Rattle.window_rule.proofs.Trails.{follows_trans, goes_on-refl}
 use Rattle.block_pool.specs.Moves.{Failed}
 use Rattle.block_pool.proofs.MovesKept.{failed_none, failed_sum}
-use Rattle.block_pool.proofs.GivesKept.{first_spare_small, frees_after, keeps_after, looked_since, may_after, relinks_after}
+use Rattle.block_pool.proofs.GivesKept.{frees_after, keeps_after, looked_since, may_after, relinks_after}
+use Rattle.block_pool.proofs.ForUse.{frees_leaves_use, keeps_leaves_use}
+use Rattle.fabric.proofs.SparesJoined.{first_spare_small}
 use Rattle.block_pool.proofs.giving.give.Goals as goal
 
 pub loop-init : goal.loop-init
@@ -94,6 +96,53 @@ returns-clause-given g c =
     let was = c.loop.invariant in
     let all : c.loop.counter ≡ 64 = omega arith in
     inr (keeps_after c.args.block c.args.rank.now c.loop.rank c.keep-2.new.rank _ was.relinks
+    c.keep-2.ensures.spares c.keep-2.ensures.view
+    (inr (subst (λ n. Failed c.args.block.rank n c.args.rank.now.view c.loop.rank.view) all
+    was.failed)))
+
+pub returns-in-Made-clause-stay : goal.returns-in-Made-clause-stay
+returns-in-Made-clause-stay g c = λ other ne ready.
+    frees_leaves_use c.args.window.now.shape c.args.block c.args.rank.now c.try_push.new.rank
+    (subst (λ w. HasSpares w.shape c.args.rank.now.view.private c.args.rank.now.spares)
+    c.requires.window c.first_spare-spare.ensures.has) c.requires.may other ne ready
+    (frees_after c.args.window.now.shape c.args.block c.args.rank.now c.loop.rank
+    c.try_push.new.rank c.loop.invariant.relinks c.in-Made.ensures.pushes)
+
+pub returns-in-Refused-clause-stay : goal.returns-in-Refused-clause-stay
+returns-in-Refused-clause-stay g c = λ other ne ready.
+    let ranks = ap (λ s. s.ranks) c.geometry.ensures in
+    keeps_leaves_use c.args.window.now.shape c.args.block c.args.rank.now c.keep.new.rank
+    (subst (λ w. HasSpares w.shape c.args.rank.now.view.private c.args.rank.now.spares)
+    c.requires.window c.first_spare-spare.ensures.has) c.requires.may other ne ready
+    (omega (arith, c.requires.block.0, ranks, c.keeps_ranges.ensures.ranks.1))
+    c.in-Refused.ensures.free
+    (c.keep.ensures.link ∙ ap Some (c.first_spare-spare.ensures.first
+    ∙ ap (first_spare_of c.args.rank.now.spares) c.rank.ensures))
+    (let was = c.loop.invariant in
+    let told = c.in-Refused.ensures.pushes in
+    keeps_after c.args.block c.args.rank.now c.try_push.new.rank c.keep.new.rank _
+    (relinks_after c.args.window.now.shape c.args.block c.args.rank.now c.loop.rank
+    c.try_push.new.rank was.relinks told.0) c.keep.ensures.spares c.keep.ensures.view
+    (inl (
+      told.1.0,
+      looked_since c.args.block.rank told.1.0 c.args.rank.now.view c.loop.rank.view
+          c.try_push.new.rank.view was.follows.looks was.relinks.places told.1.1,
+      told.1.2,
+    )))
+
+pub returns-clause-stay : goal.returns-clause-stay
+returns-clause-stay g c = λ other ne ready.
+    let ranks = ap (λ s. s.ranks) c.geometry.ensures in
+    keeps_leaves_use c.args.window.now.shape c.args.block c.args.rank.now c.keep-2.new.rank
+    (subst (λ w. HasSpares w.shape c.args.rank.now.view.private c.args.rank.now.spares)
+    c.requires.window c.first_spare-spare.ensures.has) c.requires.may other ne ready
+    (omega (arith, c.requires.block.0, ranks, c.keeps_ranges.ensures.ranks.1))
+    (c.loop.invariant.free (omega arith))
+    (c.keep-2.ensures.link ∙ ap Some (c.first_spare-spare.ensures.first
+    ∙ ap (first_spare_of c.args.rank.now.spares) c.rank.ensures))
+    (let was = c.loop.invariant in
+    let all : c.loop.counter ≡ 64 = omega arith in
+    keeps_after c.args.block c.args.rank.now c.loop.rank c.keep-2.new.rank _ was.relinks
     c.keep-2.ensures.spares c.keep-2.ensures.view
     (inr (subst (λ n. Failed c.args.block.rank n c.args.rank.now.view c.loop.rank.view) all
     was.failed)))

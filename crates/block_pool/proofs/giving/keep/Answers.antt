@@ -21,3 +21,8 @@ keep_spare-requires-clause-linked g c =
     ∙ (link-here c.args.block c.args.spare c.args.rank.now.view.private c.requires.may.own
     ∙ ap Some (c.requires.spare
     ∙ ap (λ e. first_spare_of e c.args.block.rank) (sym c.link.ensures.spares)))
+
+pub returns-clause-link : goal.returns-clause-link
+returns-clause-link g c =
+    ap (λ v. own_next_of v.private c.args.block) (c.keep_spare.ensures.view ∙ c.link.ensures.view)
+    ∙ link-here c.args.block c.args.spare c.args.rank.now.view.private c.requires.may.own

@@ -7,5 +7,5 @@ pub loop-block-preserved : goal.loop-block-preserved
 loop-block-preserved c =
     let place : Place = record { rank = c.args.rank; block = c.loop-block.block } in
     rw (c.number.ensures.value, c.new.ensures, c.next_free-next.ensures)
-    (AreWords-block c.args.geometry.now c.loop-block.words c.args.geometry.now.ranks _ place
+    (AreWords-block c.args.geometry.now c.args.tag c.loop-block.words c.args.geometry.now.ranks _ place
     (c.requires.rank, omega arith) (omega arith) c.loop-block.invariant)

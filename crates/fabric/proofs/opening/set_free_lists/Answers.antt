@@ -5,4 +5,4 @@ use Rattle.fabric.proofs.opening.set_free_lists.Goals as goal
 pub returns : goal.returns
 returns c =
     let all : c.loop-rank.rank ≡ c.args.geometry.now.ranks = omega arith in
-    AreWords-all c.args.geometry.now c.loop-rank.words (rw all at c.loop-rank.invariant)
+    AreWords-all c.args.geometry.now c.args.tag c.loop-rank.words (rw all at c.loop-rank.invariant)

@@ -4,4 +4,4 @@ use Rattle.fabric.proofs.opening.set_free_lists.Given as goal
 
 abbrev pub invariant-loop-rank : goal.invariant-loop-rank
 invariant-loop-rank l = AreWords l.geometry l.words
-    (set_so_far l.geometry l.geometry.ranks (l.rank * l.geometry.blocks))
+    (set_so_far l.geometry l.tag l.geometry.ranks (l.rank * l.geometry.blocks))

@@ -1,5 +1,4 @@
 use Rattle.std.proofs.Common.{rules, ap, subst, ◌∙◌}
-use Rattle.rma_layout.specs.Shape.{Shape}
 use Rattle.rma_layout.specs.Ranges.{IsInRange}
 use Rattle.object_store.proofs.Works.{went_wider, fell_wider}
 use Rattle.object_store.specs.Works.{Nowhere}

@@ -1,5 +1,4 @@
 use Rattle.std.proofs.Common.{ap, ◌∙◌}
-use Rattle.rma_layout.specs.Shape.{Shape}
 use Rattle.object_store.proofs.Works.{works_wider}
 use Rattle.label_index.specs.Entries.{pair_of, slot_for}
 use Rattle.label_index.specs.Index.{IsSlotFor}

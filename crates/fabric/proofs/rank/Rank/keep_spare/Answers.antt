@@ -19,6 +19,7 @@ invariant_of-self g c =
     record {
       slots = c.self.invariant.slots;
       live = c.self.invariant.live;
+      rights = c.self.invariant.rights;
       has = spares_kept_at _ _ firsts lasts b home c.block.result c.if-index-eq0.last
           c.rank-home.ensures c.block.ensures.value
           (elim c.if-index-eq0.branch [

@@ -15,6 +15,7 @@ invariant_of-self g c =
     record {
       slots = c.self.invariant.slots;
       live = c.self.invariant.live;
+      rights = c.self.invariant.rights;
       has = spares_used_at _ _ firsts lasts c.args.home c.args.next c.if-next-eq0.last
           (elim c.if-next-eq0.branch [
             | then-next-eq0 w ↦ w.last-is ∙ sym (ap (λ t. cond t 0 (get_or lasts c.args.home 0))

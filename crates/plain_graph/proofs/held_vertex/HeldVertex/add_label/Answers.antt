@@ -1,4 +1,4 @@
-use Rattle.std.proofs.Common.{◌≡◌, ap, ◌∙◌}
+use Rattle.std.proofs.Common.{ap, ◌∙◌}
 use Rattle.graph_model.specs.Maps.{add}
 use Rattle.graph_model.specs.Graph.{Vertex}
 use Rattle.plain_graph.proofs.OrderedMaps.{added}

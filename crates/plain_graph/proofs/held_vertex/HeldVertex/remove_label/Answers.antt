@@ -1,5 +1,5 @@
-use Rattle.std.proofs.Common.{◌≡◌, true, sym, ap, ◌∙◌}
-use Rattle.graph_model.specs.Maps.{has, take_out}
+use Rattle.std.proofs.Common.{ap, ◌∙◌}
+use Rattle.graph_model.specs.Maps.{take_out}
 use Rattle.graph_model.specs.Graph.{Vertex}
 use Rattle.plain_graph.proofs.OrderedMaps.{taken_out, taken-labels}
 use Rattle.plain_graph.proofs.held_vertex.HeldVertex.remove_label.Goals as goal

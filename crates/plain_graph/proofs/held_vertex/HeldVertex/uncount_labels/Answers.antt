@@ -1,4 +1,4 @@
-use Rattle.std.proofs.Common.{◌≡◌, ℕ, ◌+◌, ◌∷◌, cond, eqb, ap, ◌∙◌, arith}
+use Rattle.std.proofs.Common.{ℕ, cond, eqb, ap, ◌∙◌, arith}
 use Rattle.std.proofs.lemmas.List.Sums.{sum_by-cons}
 use Rattle.rma_layout.specs.Placement.{raw_of, slot_of}
 use Rattle.plain_graph.specs.Plain.{labels_kept}

@@ -1,7 +1,6 @@
 use Rattle.std.proofs.Common.{length, sym, ap, ◌∙◌, arith}
 use Rattle.std.specs.List.{position}
 use Rattle.std.specs.Str.{bytes_eq}
-use Rattle.graph_model.specs.Graph.{PropType}
 use Rattle.graph_model.specs.Lookups.{label_number}
 use Rattle.plain_graph.specs.Plain.{Plain}
 use Rattle.plain_graph.proofs.Places.{position-place_where, position-below, labels-few}

@@ -1,4 +1,4 @@
-use Rattle.std.proofs.Common.{◌≡◌, ◌∙◌, ap, Ok}
+use Rattle.std.proofs.Common.{◌≡◌, ◌∙◌, ap}
 use Rattle.object_store.proofs.Works.{went-works}
 use Rattle.held_objects.proofs.Changes.{changes_ok, may_write, spelled_part}
 use Rattle.holder_codec.proofs.Lengths.{vertex_same}

@@ -1,0 +1,3 @@
+pub mod OrderedEntries
+pub mod Indexed
+pub mod EdgeMaps
