@@ -48,9 +48,19 @@ of_size option values given no_file same plain =
 
 module _ (items : List Item) (vertices edges : List Text) (sizes : Sizes) (given : AreGiven items vertices edges sizes) where
   pub plain_values : AreValues vertices edges sizes → ArePlainValues load_options items
-  plain_values h = λ option there. of_each (ValuesMayBe items) load_options option
-      (of_file (codes "vertices") _ _ given.vertices h.0, (of_file (codes "edges") _ _ given.edges h.1, (of_size (codes "ranks") _ _ refl given.ranks h.2.0, (of_size (codes "blocks") _ _ refl given.blocks h.2.1,
-      (of_size (codes "words") _ _ refl given.words h.2.2, (of_size (codes "buckets") _ _ refl given.buckets h.2.3, (of_size (codes "slots") _ _ refl given.slots h.2.4, tt))))))) there
+  plain_values h = λ option there. of_each (ValuesMayBe items) load_options option (
+    of_file (codes "vertices") _ _ given.vertices h.0,
+    (
+      of_file (codes "edges") _ _ given.edges h.1,
+      (
+        of_size (codes "ranks") _ _ refl given.ranks h.2.0,
+        (
+          of_size (codes "blocks") _ _ refl given.blocks h.2.1,
+          (of_size (codes "words") _ _ refl given.words h.2.2, (of_size (codes "buckets") _ _ refl given.buckets h.2.3, (of_size (codes "slots") _ _ refl given.slots h.2.4, tt))),
+        ),
+      ),
+    ),
+  ) there
 
   files_of : (option : Text) (values : List Text) → is_among load_options option ≡ true → is_among file_options option ≡ true → values_of option items ≡ values
       → ArePlainValues load_options items → AllByRecursion IsFile values

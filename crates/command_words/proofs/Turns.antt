@@ -157,6 +157,7 @@ module _ (name : Text) (options : List Text) where
     where
       found : arg_by_long (rules options) given ≡ None
       found = by_long options given ∙ rw unknown refl
+
       go : (waiting : Waiting) → word_fault shape [] false waiting word held ≡ kind.UnknownArgument ∷ []
       go idle = rw (long.0, long.1, found) refl
       go positional = rw (long.0, long.1, found) refl

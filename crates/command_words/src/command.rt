@@ -17,7 +17,10 @@ pub enum CommandName {
 #[derive(Debug, Drop)]
 pub enum Command<'a> {
     /// To load, to run the script of this file, and to write what comes of it.
-    Run { source: Source<'a>, script: &'a str },
+    Run {
+        source: Source<'a>,
+        script: &'a str,
+    },
     /// To say whether the output of this file is legal for the load and the script.
     Check {
         source: Source<'a>,
@@ -25,9 +28,14 @@ pub enum Command<'a> {
         output: &'a str,
     },
     /// To load and to write a line for each visitor.
-    Report { source: Source<'a> },
+    Report {
+        source: Source<'a>,
+    },
     /// To make a load and a script of this size, 1 to 10,000, from a seed, to run them, and to write a summary.
-    Drill { size: u64, seed: u64 },
+    Drill {
+        size: u64,
+        seed: u64,
+    },
 }
 
 impl CommandName {

@@ -31,7 +31,7 @@ module _ (shape : Shape) (entry : ℕ → Option Txn) where
   one_more g i txn here is =
       let step : graph_after_txn shape g txn ≡ graph_after shape entry (suc i)
       = ap (λ (h : Graph). graph_after_txn shape h txn) here
-          ∙ sym (ap (λ (o : Option Txn). option_map_or (graph_after_txn shape (graph_after shape entry i)) o (graph_after shape entry i)) is) in
+      ∙ sym (ap (λ (o : Option Txn). option_map_or (graph_after_txn shape (graph_after shape entry i)) o (graph_after shape entry i)) is) in
       let next : suc i ≡ i + 1 = omega arith in
       step ∙ ap (graph_after shape entry) next
 

@@ -193,7 +193,7 @@ graph_follows shape entry g k txn false false None ae we here is_next = looking_
 graph_follows shape entry g k txn false true (Some rank) ae we here is_next = here
 graph_follows shape entry g k txn false true None ae we here is_next =
     ap (λ (h : Graph). graph_after_txn shape h txn) here
-        ∙ sym (ap (λ (o : Option Txn). option_map_or (graph_after_txn shape (graph_after shape entry k)) o (graph_after shape entry k)) (is_next refl refl refl))
+    ∙ sym (ap (λ (o : Option Txn). option_map_or (graph_after_txn shape (graph_after shape entry k)) o (graph_after shape entry k)) (is_next refl refl refl))
 
 replies_hold : (shape : Shape) (graph : ℕ → Graph) (g : Graph) (txn : Txn) (a w : Bool) (full : Option ℕ) (k : ℕ) → g ≡ graph k
     → HasReplies shape graph txn (ends a w full k (replies_to shape g txn))

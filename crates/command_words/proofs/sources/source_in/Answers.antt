@@ -8,7 +8,7 @@ use Rattle.command_words.proofs.sources.source_in.Goals as goal
 pub returns-then-not-are_values : goal.returns-then-not-are_values
 returns-then-not-are_values c = λ items holds once.
     let given : AreGiven items (listed c.value_of-vertices.result) (listed c.value_of-edges.result)
-            (record { ranks = c.value_of.result; blocks = c.value_of-2.result; words = c.value_of-3.result; buckets = c.value_of-4.result; slots = c.value_of-5.result })
+    (record { ranks = c.value_of.result; blocks = c.value_of-2.result; words = c.value_of-3.result; buckets = c.value_of-4.result; slots = c.value_of-5.result })
     = record {
       vertices = c.value_of-vertices.ensures load_options items holds refl (once (codes "vertices") refl);
       edges = c.value_of-edges.ensures load_options items holds refl (once (codes "edges") refl);
@@ -23,7 +23,7 @@ returns-then-not-are_values c = λ items holds once.
 pub returns-in-Ok : goal.returns-in-Ok
 returns-in-Ok c = λ items holds once.
     let given : AreGiven items (listed c.value_of-vertices.result) (listed c.value_of-edges.result)
-            (record { ranks = c.value_of.result; blocks = c.value_of-2.result; words = c.value_of-3.result; buckets = c.value_of-4.result; slots = c.value_of-5.result })
+    (record { ranks = c.value_of.result; blocks = c.value_of-2.result; words = c.value_of-3.result; buckets = c.value_of-4.result; slots = c.value_of-5.result })
     = record {
       vertices = c.value_of-vertices.ensures load_options items holds refl (once (codes "vertices") refl);
       edges = c.value_of-edges.ensures load_options items holds refl (once (codes "edges") refl);
@@ -32,8 +32,7 @@ returns-in-Ok c = λ items holds once.
       words = c.value_of-3.ensures load_options items holds refl (once (codes "words") refl);
       buckets = c.value_of-4.ensures load_options items holds refl (once (codes "buckets") refl);
       slots = c.value_of-5.ensures load_options items holds refl (once (codes "slots") refl);
-    } in
-    (
+    } in (
       plain_values items _ _ _ given (c.are_values.ensures.0 c.if-not-are_values.false),
       record { vertices = given.vertices; edges = given.edges; numbers = numbers_of items _ _ _ given c.in-Ok.geometry c.in-Ok.ensures.0; fits = c.in-Ok.ensures.1 },
     )
@@ -41,7 +40,7 @@ returns-in-Ok c = λ items holds once.
 pub returns-in-Err : goal.returns-in-Err
 returns-in-Err c = λ items holds once.
     let given : AreGiven items (listed c.value_of-vertices.result) (listed c.value_of-edges.result)
-            (record { ranks = c.value_of.result; blocks = c.value_of-2.result; words = c.value_of-3.result; buckets = c.value_of-4.result; slots = c.value_of-5.result })
+    (record { ranks = c.value_of.result; blocks = c.value_of-2.result; words = c.value_of-3.result; buckets = c.value_of-4.result; slots = c.value_of-5.result })
     = record {
       vertices = c.value_of-vertices.ensures load_options items holds refl (once (codes "vertices") refl);
       edges = c.value_of-edges.ensures load_options items holds refl (once (codes "edges") refl);
