@@ -7,6 +7,7 @@ pub mod CallAnswers
 pub mod EdgeAnswers
 pub mod EdgeWrites
 pub mod Cuts
+pub mod EdgeLines
 pub mod Ends
 pub mod Writes
 pub mod Places

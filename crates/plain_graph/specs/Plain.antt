@@ -2,7 +2,7 @@
 use Rattle.std.specs.Prelude.{◌≡◌, ℕ, ◌+◌, ◌<◌, ◌≤◌, Bool, false, List, [], length, ◌&&◌, sum_by, count_by, ◌==◌, IsSome, IsSomeAnd}
 use Rattle.std.specs.List.{AllByRecursion, list_any}
 use Rattle.gdi_kinds.specs.declared.call.Call.{Call}
-use Rattle.gdi_kinds.specs.declared.call.Call.TheVariants.{NewLabel, NewType, Vertex as MakeVertex, Has, DropVertex, Tag, Untag, Set, Add, Get, Unset, Edge as MakeEdge, UEdge, Cut, Target, ETag, EUntag, ESet, EAdd, EGet, EUnset}
+use Rattle.gdi_kinds.specs.declared.call.Call.TheVariants.{NewLabel, NewType, Vertex as MakeVertex, Has, DropVertex, Tag, Untag, Set, Add, Get, Unset, Edge as MakeEdge, UEdge, Cut, Target, ETag, EUntag, ESet, EAdd, EGet, EUnset, Near, Degree, Vertices, Arcs}
 use Rattle.gdi_kinds.specs.declared.reply.Reply.{Reply}
 use Rattle.rma_layout.specs.Shape.{Shape}
 use Rattle.rma_layout.specs.Placement.{raw_of, bucket_of, slot_of}
@@ -89,6 +89,14 @@ pub record IsCounted (shape : Shape) (labels : List Name) (types : List PropType
   pub incoming : torn ≡ false → Indexes target_of edges in_index
   pub ends : torn ≡ false → AllByRecursion (IsBetween vertices) edges
 
+-- the calls that list or count edges and vertices, as far as they stand
+abbrev pub IsList : Call → Type 0
+IsList (Near id dir) = Unit {0}
+IsList (Degree id dir) = Unit {0}
+IsList Vertices = Unit {0}
+IsList Arcs = Unit {0}
+IsList call = ⊥
+
 -- the calls on an edge that stand
 abbrev pub IsOnEdge : Call → Type 0
 IsOnEdge (Cut source ordinal) = Unit {0}
@@ -99,7 +107,7 @@ IsOnEdge (ESet source ordinal prop value) = Unit {0}
 IsOnEdge (EAdd source ordinal prop value) = Unit {0}
 IsOnEdge (EGet source ordinal prop) = Unit {0}
 IsOnEdge (EUnset source ordinal prop) = Unit {0}
-IsOnEdge call = ⊥
+IsOnEdge call = IsList call
 
 -- the calls that stand
 abbrev pub Stands : Call → Type 0

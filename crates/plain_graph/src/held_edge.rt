@@ -57,6 +57,12 @@ impl HeldEdge {
         self.target
     }
 
+    pub(crate) fn undirected(&self) -> bool
+        ensures { result ≡ self.now.undirected }
+    {
+        self.undirected
+    }
+
     /// How many labels it has.
     pub(crate) fn label_count(&self) -> u64
         ensures value { result ≡ length self.now.labels }

@@ -1,6 +1,7 @@
 //! A plain program that does the sequential property graph's calls, over ordered maps.
 #![tactic(auto)]
 
+mod edge_lines;
 mod held_edge;
 mod held_props;
 mod held_type;

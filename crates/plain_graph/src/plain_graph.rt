@@ -9,6 +9,7 @@ mod edge_changes;
 mod edge_props;
 mod edge_tags;
 mod edges;
+mod lists;
 mod looks;
 mod names;
 mod props;
@@ -87,9 +88,9 @@ impl PlainGraph {
         }
     }
 
-    /// Does a call and answers its reply. So far it takes the calls that make labels and types, vertices and edges, those
-    /// that drop and ask for vertices, that cut an edge and ask where it leads, and those that tag and untag a vertex or
-    /// an edge and set, add, get and unset a property of it.
+    /// Does a call and answers its reply. So far it takes the calls that make labels, types, vertices and edges, those that
+    /// drop and ask for vertices, that cut an edge and ask where it leads, that tag and untag a vertex or an edge and set,
+    /// add, get and unset a property of it, and those that count edges and vertices and tell of a vertex's neighbours.
     pub fn apply(&mut self, call: &Call) -> Result<Reply, ModelRefused>
         requires { Stands call.now }
         ensures shape { self.new.shape ≡ self.old.shape }
@@ -163,7 +164,7 @@ impl PlainGraph {
                 ordinal,
                 prop,
             } => self.unset_edge_prop(*source, *ordinal, prop),
-            _ => unreachable!(),
+            _ => self.list(call),
         }
     }
 
