@@ -7,3 +7,5 @@ mod heads;
 mod pool;
 #[cfg(test)]
 mod steps;
+#[cfg(test)]
+mod sums;

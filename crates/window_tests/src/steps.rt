@@ -11,7 +11,7 @@ use std::test::Fail;
 use std::thread::join_mut;
 
 /// A law that every entry satisfies.
-struct Anything;
+pub(crate) struct Anything;
 
 impl Law for Anything {
     type Note = ();
@@ -21,7 +21,7 @@ impl Law for Anything {
 
 /// A note that says nothing.
 #[derive(Drop)]
-struct NoNote;
+pub(crate) struct NoNote;
 
 impl Carries<Anything> for NoNote {
     ghost note = { λ _. tt };
