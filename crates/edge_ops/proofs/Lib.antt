@@ -1,0 +1,5 @@
+pub mod Keys
+pub mod RecordLists
+pub mod Finding
+pub mod EndsWritten
+pub mod NewEdge
