@@ -6,14 +6,14 @@ use Rattle.std.specs.Ordering.{eq_by_cmp}
 use Rattle.std.proofs.lemmas.Bool.{and_from, and_parts, or_parts}
 use Rattle.std.proofs.lemmas.Bool.Decides.{nat_tests}
 use Rattle.rma_layout.specs.Placement.{Place, same_place}
-use Rattle.object_words.specs.Contents.{Contents, Agrees, IsByRisingObject, content_of, place_cmp, with_words, overlay}
+use Rattle.object_words.specs.Contents.{Contents, IsByRisingObject, content_of, place_cmp, with_words, overlay}
 use Rattle.object_words.proofs.Places.{in_order-with_words, place_ties_itself, places_equal}
 use Rattle.graph_model.specs.Sizes.{most_words, is_too_large}
 use Rattle.object_store.specs.State.{StoreState}
 use Rattle.object_store.proofs.Working.{content_put}
 use Rattle.holder_codec.specs.declared.vertex_holder.VertexHolder.{VertexHolder}
 use Rattle.holder_codec.specs.Vertex.{IsVertexHolder, vertex_words}
-use Rattle.vertex_ops.specs.Vertices.{HeldVertex, HoldsVertex, IsOrderly, holder_for, size}
+use Rattle.vertex_ops.specs.Vertices.{HeldVertex, HoldsVertex, IsOrderly, holder_for}
 use Rattle.edge_ops.specs.declared.ends.Ends.{Ends}
 use Rattle.edge_ops.specs.Ends.{HeldEnds, HoldsEnds, as_ends, ends_after}
 use Rattle.edge_ops.specs.Ending.{AreHolders, AreOf, WritesEnds, are_too_large, ends_made, target_of, written}
@@ -60,8 +60,8 @@ module _ (contents writes : Contents) (source target : Place) (ordered : IsByRis
       cases (Some to) apart =
           let first_ordered = in_order-with_words writes source (vertex_words made.source) ordered in (
             content_put contents (with_words writes source (vertex_words made.source)) target (vertex_words to) source first_ordered
-            ∙ (ap (λ b. cond b (vertex_words to) (content_of (overlay contents (with_words writes source (vertex_words made.source))) source)) (untied source target apart)
-            ∙ here source (vertex_words made.source) writes ordered),
+                ∙ (ap (λ b. cond b (vertex_words to) (content_of (overlay contents (with_words writes source (vertex_words made.source))) source)) (untied source target apart)
+                ∙ here source (vertex_words made.source) writes ordered),
             here target (vertex_words to) (with_words writes source (vertex_words made.source)) first_ordered,
             in_order-with_words (with_words writes source (vertex_words made.source)) target (vertex_words to) first_ordered,
           )

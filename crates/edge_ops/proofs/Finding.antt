@@ -1,5 +1,5 @@
 -- What is read of two vertices, one after the other.
-use Rattle.std.proofs.Common.{◌≡◌, ◌≢◌, ◌∙◌, ℕ, Bool, true, false, cond, List, [], Option, Some, None, IsSome, refl, sym, ap, subst, inl, inr, arith}
+use Rattle.std.proofs.Common.{◌≡◌, ◌≢◌, ◌∙◌, ℕ, true, false, cond, List, [], Option, Some, None, IsSome, refl, sym, ap, subst, inl, inr, arith}
 use Rattle.std.specs.Option.{unwrap_or, MatchOption}
 use Rattle.std.specs.Ordering.{eq_by_cmp}
 use Rattle.rma_layout.specs.Shape.{Shape}
@@ -8,7 +8,6 @@ use Rattle.rma_layout.specs.Placement.{FitsOneWord, IsBlock, IsReserved, Place}
 use Rattle.object_words.specs.Contents.{Contents, Agrees, IsByRisingObject, content_of, place_cmp, words_at, with_words, overlay}
 use Rattle.object_words.proofs.Places.{words_at-with_words}
 use Rattle.object_store.specs.State.{StoreState, committed}
-use Rattle.object_store.specs.Sound.{StaysBegun}
 use Rattle.object_store.specs.Calls.{MayWrite, WritesObject}
 use Rattle.object_store.specs.Works.{Looks}
 use Rattle.object_store.proofs.Works.{looks-then}

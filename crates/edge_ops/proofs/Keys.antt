@@ -1,9 +1,7 @@
 -- The order of records is that of their keys.
-use Rattle.std.proofs.Common.{◌≡◌, ℕ, ◌+◌, ◌*◌, Bool, true, false, cond, eqb, ◌&&◌, ◌||◌, Option, Some, None, Result, Ok, Err, slice_get, length, ◌≤◌, List, refl, sym, ap, ◌∙◌}
-use Rattle.std.specs.Prelude.{nat_lt, IsTrue}
-use Rattle.std.specs.Result.{MatchResult}
+use Rattle.std.proofs.Common.{◌≡◌, ℕ, Bool, true, false, cond, eqb, ◌&&◌, ◌||◌, refl}
+use Rattle.std.specs.Prelude.{nat_lt}
 use Rattle.std.specs.Int.{from_bool}
-use Rattle.std.specs.List.{insert}
 use Rattle.std.specs.Ordering.{nat_cmp, ordering_then, is_lt}
 use Rattle.std.specs.Cmp.{IsTotalOrder, then_total, on_total, nat_cmp_total}
 use Rattle.std.specs.declared.cmp.Ordering.{Ordering}
@@ -13,7 +11,7 @@ use Rattle.holder_codec.specs.declared.edge_form.EdgeForm.TheVariants.{Plain}
 use Rattle.holder_codec.specs.declared.edge_record.EdgeRecord.{EdgeRecord}
 use Rattle.holder_codec.specs.Edges.{is_record_before}
 use Rattle.rising_lists.proofs.Rising.{lt_by_nat_cmp}
-use Rattle.edge_ops.specs.Records.{Key, key_of, key_cmp, record_for}
+use Rattle.edge_ops.specs.Records.{Key, key_of, key_cmp}
 
 pub key_total : IsTotalOrder key_cmp
 key_total =

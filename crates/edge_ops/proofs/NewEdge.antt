@@ -1,10 +1,9 @@
 -- A new edge between two vertices, or from one to itself.
-use Rattle.std.proofs.Common.{◌≡◌, ◌≢◌, ◌∙◌, ℕ, Bool, true, false, cond, ◌||◌, eqb, List, length, Result, Ok, Err, IfOk, refl, sym, ap, subst}
+use Rattle.std.proofs.Common.{◌≡◌, ◌∙◌, ℕ, Bool, true, false, cond, ◌||◌, eqb, List, length, Result, Ok, Err, IfOk, refl, sym, ap, subst}
 use Rattle.std.specs.Bool.{MatchBool}
 use Rattle.std.specs.Result.{IsOkAnd}
 use Rattle.gdi_kinds.specs.declared.reply.Reply.{Reply}
 use Rattle.gdi_kinds.specs.declared.reply.Reply.TheVariants.{EdgeIs, TooLarge}
-use Rattle.rma_layout.specs.Shape.{Shape}
 use Rattle.rma_layout.specs.Placement.{Place}
 use Rattle.object_words.specs.Contents.{Contents, Agrees, IsByRisingObject, overlay}
 use Rattle.graph_model.specs.EdgeCalls.{ordinals_end}
@@ -20,9 +19,8 @@ use Rattle.holder_codec.specs.Vertex.{vertex_words}
 use Rattle.held_objects.specs.declared.change.Change.{Change}
 use Rattle.held_objects.specs.declared.change.Change.TheVariants.{Refused, Made}
 use Rattle.held_objects.specs.Changes.{IfMade, any}
-use Rattle.held_objects.specs.Knows.{Knows}
-use Rattle.held_objects.proofs.Knows.{before, knows_after, still}
-use Rattle.vertex_ops.specs.Vertices.{HeldVertex, HoldsVertex, IsOrderly, KnowsVertex, holder_for, size}
+use Rattle.held_objects.proofs.Knows.{knows_after, still}
+use Rattle.vertex_ops.specs.Vertices.{HeldVertex, IsOrderly, KnowsVertex, holder_for}
 use Rattle.edge_ops.specs.declared.ends.Ends.{Ends}
 use Rattle.edge_ops.specs.Ends.{HeldEnds, HoldsEnds, MakesEdge, as_ends, into_of, out_of, reply_to_make, with_edge, with_in, with_out}
 use Rattle.edge_ops.specs.Ending.{AreHolders, AreOf, SettlesEnds, WritesEnds, are_too_large, ends_made, holder_with_in, holder_with_out, new_edge, target_of}

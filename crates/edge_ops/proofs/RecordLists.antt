@@ -1,5 +1,5 @@
 -- Records with one more, or another in the place of one.
-use Rattle.std.proofs.Common.{◌≡◌, ◌≢◌, ℕ, zero, suc, ◌+◌, ◌^◌, ◌<◌, ◌≤◌, Bool, true, false, cond, List, [], ◌∷◌, length, slice_get, Some, None, Result, Ok, Err, refl, sym, ap, subst, ◌∙◌, arith}
+use Rattle.std.proofs.Common.{◌≡◌, ℕ, zero, suc, ◌^◌, ◌<◌, ◌≤◌, Bool, true, false, cond, List, [], ◌∷◌, length, slice_get, Some, None, Result, Ok, Err, refl, sym, ap, subst, ◌∙◌, arith}
 use Rattle.std.specs.Prelude.{IsTrue}
 use Rattle.std.specs.List.{AllByRecursion, insert, remove}
 use Rattle.std.specs.Result.{MatchResult}
@@ -19,7 +19,6 @@ use Rattle.holder_codec.specs.Vertex.{IsVertexHolder}
 use Rattle.rising_lists.specs.Rising.{by_key}
 use Rattle.rising_lists.proofs.Rising.{All-with_item, is_rising-with_item, sorted}
 use Rattle.edge_ops.specs.Records.{Key, key_of, key_cmp, record_for, with_record}
-use Rattle.edge_ops.specs.Ending.{holder_with_in, holder_with_out}
 use Rattle.edge_ops.proofs.Keys.{key_total, key_same, before_is}
 
 -- ---- where a record stands

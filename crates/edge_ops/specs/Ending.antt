@@ -9,7 +9,6 @@ use Rattle.graph_model.specs.EdgeCalls.{ordinals_end}
 use Rattle.graph_model.specs.Sizes.{most_words, is_too_large}
 use Rattle.object_store.specs.State.{StoreState}
 use Rattle.object_store.specs.Sound.{StaysBegun}
-use Rattle.object_store.specs.Works.{Looks}
 use Rattle.holder_codec.specs.declared.edge_record.EdgeRecord.{EdgeRecord}
 use Rattle.holder_codec.specs.declared.vertex_holder.VertexHolder.{VertexHolder}
 use Rattle.holder_codec.specs.Represents.{light_form}
@@ -66,8 +65,8 @@ new_edge source target labels undirected ends =
     let form = light_form labels in
     if ordinal == ordinals_end then Refused TooLarge
     else Made (ends_made
-        (holder_with_out (record { inward = false; undirected = undirected; ordinal = ordinal; other = (target_of ends).id; other_at = target; form = form }))
-        (holder_with_in (record { inward = true; undirected = undirected; ordinal = ordinal; other = ends.source.id; other_at = source; form = form })) ends)
+    (holder_with_out (record { inward = false; undirected = undirected; ordinal = ordinal; other = (target_of ends).id; other_at = target; form = form }))
+    (holder_with_in (record { inward = true; undirected = undirected; ordinal = ordinal; other = ends.source.id; other_at = source; form = form })) ends)
 
 -- what was written at the two ends
 abbrev pub written : Place → Place → List ℕ → Option (List ℕ) → Contents → Contents

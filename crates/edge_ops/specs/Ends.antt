@@ -1,5 +1,5 @@
 -- The two ends of an edge as their objects hold them. At a self loop they are one vertex.
-use Rattle.std.specs.Prelude.{◌≡◌, ◌≢◌, ℕ, ◌+◌, Bool, true, false, ◌||◌, List, [], ◌∷◌, length, Option, Some, None, MatchOption, MatchBool, IfSome, ◌⊎◌, if◌then◌else◌, ◌==◌}
+use Rattle.std.specs.Prelude.{◌≡◌, ◌≢◌, ℕ, ◌+◌, Bool, true, false, ◌||◌, List, [], ◌∷◌, Option, Some, None, ◌⊎◌, if◌then◌else◌, ◌==◌}
 use Rattle.gdi_kinds.specs.declared.reply.Reply.{Reply}
 use Rattle.gdi_kinds.specs.declared.reply.Reply.TheVariants as reply
 use Rattle.rma_layout.specs.Shape.{Shape}
