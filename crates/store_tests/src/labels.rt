@@ -2,7 +2,7 @@ ghost use Rattle.std.specs.Prelude.{◌≡◌, ◌≢◌, ◌≤◌, OnOk};
 ghost use Rattle.rma_layout.specs.Shape.{Shape};
 ghost use Rattle.object_store.specs.declared.phase.Phase.TheVariants.{Idle, Writing};
 ghost use Rattle.held_objects.specs.Knows.{Knows};
-ghost use Rattle.label_index.specs.Index.{Has, Lacks};
+ghost use Rattle.label_index.specs.Index.{Has, Indexes, Lacks};
 
 use crate::keeping::Keeping;
 use gdi_kinds::NumList;
@@ -24,15 +24,18 @@ fn exchange<S: Store<Keeping>>(
     requires apart { other ≢ id }
     requires absent { Knows (Lacks (label, id)) (S.state store.old) }
     requires present { Knows (Has (label, other)) (S.state store.old) }
+    ensures begun { OnOk result ((S.state store.new).phase ≡ Writing) }
     ensures gone { OnOk result (Knows (Lacks (label, other)) (S.state store.new)) }
+    ensures indexes { OnOk result (Knows Indexes (S.state store.new)) }
 {
     let added = add(alloc, store, label, id)?;
     remove(alloc, store, label, other)?;
     Ok(added)
 }
 
-/// Enters a label of two vertices where nobody has it, and lists the vertices that have it. Nothing is committed.
-fn enter_and_list<S: Store<Keeping>>(
+/// Enters a label of a vertex where nobody has it, exchanges it for that of another, and lists the vertices before and
+/// behind. Nothing is committed.
+fn enter_and_exchange<S: Store<Keeping>>(
     alloc: Global,
     store: &mut S,
     label: u32,
@@ -40,7 +43,7 @@ fn enter_and_list<S: Store<Keeping>>(
     other: u64,
 ) -> Result<Option<NumList>, S::Refused>
     requires idle { (S.state store.old).phase ≡ Idle }
-    requires apart { other ≢ one }
+    requires apart { one ≢ other }
 {
     let geometry = store.geometry();
     geometry.keeps_ranges();
@@ -50,8 +53,12 @@ fn enter_and_list<S: Store<Keeping>>(
         store.abort();
         return Ok(None);
     }
-    let _one = add(alloc, store, label, one)?;
-    let _other = add(alloc, store, label, other)?;
+    let entered = add(alloc, store, label, one)?;
+    if !entered {
+        store.abort();
+        return Ok(None);
+    }
+    let _added = exchange(alloc, store, label, other, one)?;
     let after = ids(alloc, store, label)?;
     store.abort();
     Ok(Some(after))
@@ -61,9 +68,9 @@ fn enter_and_list<S: Store<Keeping>>(
 fn vertices_of_a_label(rt: HostRuntime) -> Result<(), Fail> {
     let geometry = Geometry::new(3, 100, 8, 2, 4)?;
     let mut store = PlainStore::<Keeping>::new(rt.alloc(), geometry)?;
-    let Ok(Some(listed)) = enter_and_list(rt.alloc(), &mut store, 2, 70, 5) else {
+    let Ok(Some(listed)) = enter_and_exchange(rt.alloc(), &mut store, 2, 70, 5) else {
         return Err("refused".into());
     };
-    assert_eq!(rt; listed.as_slice(), [5, 70].as_slice());
+    assert_eq!(rt; listed.as_slice(), [5].as_slice());
     Ok(())
 }
