@@ -8,7 +8,7 @@ ghost use Rattle.gdi_run.specs.BareScripts.{IsBareScript};
 ghost use Rattle.gdi_run.specs.Serial.{RunsOn, RunsOne, ends};
 
 use gdi_kinds::{Line, LineList, NoMemory, Outcome, Printed, ReplyList, Script, Section, Txn};
-use plain_graph::{ModelRefused, PlainGraph};
+use map_graph::{ModelRefused, MapGraph};
 use rma_layout::Geometry;
 use std::alloc::Global;
 
@@ -18,7 +18,7 @@ pub(crate) fn run_script(alloc: Global, script: &Script) -> Result<Printed, NoMe
     ensures { IfOk result (λ run. IsLegalRun standard_shape [] script.now run) }
 {
     let mut run = SerialRun {
-        graph: PlainGraph::new(alloc, Geometry::standard()),
+        graph: MapGraph::new(alloc, Geometry::standard()),
         lines: LineList::new(alloc),
         writes: 0,
     };
@@ -36,7 +36,7 @@ pub(crate) fn run_script(alloc: Global, script: &Script) -> Result<Printed, NoMe
 /// A run so far: the graph after it, what it prints, and how many entries its history has.
 #[derive(Drop)]
 pub(crate) struct SerialRun {
-    pub(crate) graph: PlainGraph,
+    pub(crate) graph: MapGraph,
     pub(crate) lines: LineList,
     pub(crate) writes: u64,
 }

@@ -1,21 +1,21 @@
 ghost use Rattle.std.specs.Prelude.{IfOk};
 ghost use Rattle.std.specs.List.{AllByRecursion};
-ghost use Rattle.plain_graph.specs.Plain.{Stands};
+ghost use Rattle.map_graph.specs.Plain.{Stands};
 
 use gdi_kinds::{Call, CallList, NoMemory, Reply, Txn};
-use plain_graph::PlainGraph;
+use map_graph::MapGraph;
 use rma_layout::Geometry;
 use std::alloc::Global;
 use std::test::Fail;
 
 // Does a call, of whose answer a test's proof needs to know nothing.
-fn ask(graph: &mut PlainGraph, call: &Call) -> Result<Reply, Fail>
+fn ask(graph: &mut MapGraph, call: &Call) -> Result<Reply, Fail>
     requires { Stands call.now }
 {
     Ok(graph.apply(call)?)
 }
 
-fn has(graph: &mut PlainGraph, id: u64) -> Result<bool, Fail> {
+fn has(graph: &mut MapGraph, id: u64) -> Result<bool, Fail> {
     Ok(matches!(ask(graph, &Call::Has { id })?, Reply::Yes))
 }
 
@@ -37,7 +37,7 @@ fn making(alloc: Global, makes: bool, aborts: bool) -> Result<Txn, NoMemory>
 }
 
 // Runs it, and says how many replies there are.
-fn run(graph: &mut PlainGraph, txn: &Txn) -> Result<usize, Fail>
+fn run(graph: &mut MapGraph, txn: &Txn) -> Result<usize, Fail>
     requires { AllByRecursion Stands txn.now.calls }
 {
     Ok(graph.run(txn)?.len())
@@ -46,7 +46,7 @@ fn run(graph: &mut PlainGraph, txn: &Txn) -> Result<usize, Fail>
 #[test]
 fn an_abort_leaves_the_graph(rt: HostRuntime) -> Result<(), Fail> {
     let alloc = rt.alloc();
-    let mut graph = PlainGraph::new(alloc, Geometry::standard());
+    let mut graph = MapGraph::new(alloc, Geometry::standard());
     for makes in [true, false] {
         assert!(rt; run(&mut graph, &making(alloc, makes, true)?)? == 1);
         assert!(rt; has(&mut graph, 3)? != makes);

@@ -1,8 +1,8 @@
 ghost use Rattle.std.specs.Prelude.{IfOk};
-ghost use Rattle.plain_graph.specs.Plain.{Stands};
+ghost use Rattle.map_graph.specs.Plain.{Stands};
 
 use gdi_kinds::{Call, Kind, Name, NoMemory, Reply, Value};
-use plain_graph::PlainGraph;
+use map_graph::MapGraph;
 use rma_layout::Geometry;
 use std::test::Fail;
 
@@ -135,7 +135,7 @@ fn told(reply: &Reply) -> &'static str {
 
 #[test]
 fn calls_have_their_replies(rt: HostRuntime) -> Result<(), Fail> {
-    let mut graph = PlainGraph::new(rt.alloc(), Geometry::standard());
+    let mut graph = MapGraph::new(rt.alloc(), Geometry::standard());
     for step in 0..STEPS {
         let reply = graph.apply(&call_at(step)?)?;
         assert_eq!(rt; told(&reply), reply_at(step), "step {step}");

@@ -1,4 +1,4 @@
-//! Scripts that run one transaction after the other on a plain graph, and the law that such a run is legal.
+//! Scripts that run one transaction after the other, and the law that such a run is legal.
 #![tactic(auto)]
 
 mod law;

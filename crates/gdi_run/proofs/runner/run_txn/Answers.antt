@@ -1,4 +1,4 @@
-use Rattle.plain_graph.proofs.Standing.{bare_calls_stand}
+use Rattle.map_graph.proofs.Standing.{bare_calls_stand}
 use Rattle.gdi_run.proofs.runner.run_txn.Goals as goal
 
 pub run-requires : goal.run-requires

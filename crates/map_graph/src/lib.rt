@@ -1,0 +1,14 @@
+//! A graph in ordered maps that does the sequential property graph's calls.
+#![tactic(auto)]
+
+mod edge_lines;
+mod held_edge;
+mod held_props;
+mod held_type;
+mod held_vertex;
+mod map_graph;
+mod refused;
+mod tally;
+
+pub use map_graph::MapGraph;
+pub use refused::ModelRefused;

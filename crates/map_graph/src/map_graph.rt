@@ -1,0 +1,217 @@
+ghost use Rattle.std.specs.Prelude.{◌≡◌, IfOk, OnOk};
+ghost use Rattle.std.specs.List.{AllByRecursion};
+ghost use Rattle.graph_model.specs.Graph.{empty_graph};
+ghost use Rattle.graph_model.specs.Calls.{graph_after_call, reply_to};
+ghost use Rattle.graph_model.specs.Transactions.{graph_after_calls, graph_after_txn, replies_to, replies_to_calls};
+ghost use Rattle.map_graph.specs.Plain.{Answers, IsOnEdge, Stands};
+
+mod edge_changes;
+mod edge_props;
+mod edge_tags;
+mod edges;
+mod lists;
+mod looks;
+mod names;
+mod props;
+mod tags;
+mod vertices;
+
+use crate::ModelRefused;
+use crate::held_edge::HeldEdge;
+use crate::held_type::HeldType;
+use crate::held_vertex::HeldVertex;
+use crate::tally::Tally;
+use edge_index::{EdgeIndex, EdgeKey, copy_of_map};
+use gdi_kinds::{Call, Duplicate, ListOf, NameList, NoMemory, Reply, ReplyList, Txn};
+use rma_layout::Geometry;
+use std::alloc::Global;
+use std::collections::BTreeMap;
+use std::marker::Model;
+
+/// A graph in memory, worked on by one caller alone. Its geometry decides which calls would make an object too large. It
+/// keeps the allocator that `new` was given.
+///
+/// After `NoMemory` it is only to be dropped.
+#[derive(Debug, Drop)]
+pub struct MapGraph {
+    alloc: Global,
+    geometry: Geometry,
+    labels: NameList,
+    types: ListOf<HeldType>,
+    // The words that labels and types have in the object of the names.
+    name_words: u64,
+    // By identifier.
+    vertices: BTreeMap<u64, HeldVertex, Global>,
+    edges: BTreeMap<EdgeKey, HeldEdge, Global>,
+    // Whether a change has begun and not ended, since no memory was found for it. What stands below may then be wrong.
+    torn: bool,
+    // How many vertices each bucket leads to, by the bucket's pointer.
+    bucket_counts: Tally,
+    // How many labels of vertices each object of the index keeps, by its pointer.
+    slot_counts: Tally,
+    // The edges from each vertex, and those to it.
+    outgoing: EdgeIndex,
+    incoming: EdgeIndex,
+}
+
+impl Model for MapGraph {
+    ghost use Rattle.map_graph.specs.Plain.{Plain};
+
+    ghost Value = { Plain };
+
+    ghost use Rattle.map_graph.specs.Plain.{graph_of, IsCounted};
+
+    ghost view = { λ plain. record { shape = plain.geometry; graph = graph_of plain.labels plain.types plain.vertices.entries plain.edges.entries } };
+
+    ghost invariant = { λ plain. IsCounted plain.geometry plain.labels plain.types plain.vertices.entries plain.edges.entries plain.name_words plain.torn plain.bucket_counts plain.slot_counts plain.outgoing plain.incoming };
+}
+
+impl MapGraph {
+    /// The empty graph. It takes no memory.
+    pub fn new(alloc: Global, geometry: Geometry) -> MapGraph
+        ensures shape { result.shape ≡ geometry }
+        ensures empty { result.graph ≡ empty_graph }
+    {
+        MapGraph {
+            alloc,
+            geometry,
+            labels: NameList::new(alloc),
+            types: ListOf::new(alloc),
+            name_words: 0,
+            vertices: BTreeMap::new(alloc),
+            edges: BTreeMap::new(alloc),
+            torn: false,
+            bucket_counts: Tally::new(alloc),
+            slot_counts: Tally::new(alloc),
+            outgoing: EdgeIndex::new(alloc),
+            incoming: EdgeIndex::new(alloc),
+        }
+    }
+
+    /// Does a call and answers its reply. So far it takes the calls that make labels, types, vertices and edges, those that
+    /// drop and ask for vertices, that cut an edge and ask where it leads, that tag and untag a vertex or an edge and set,
+    /// add, get and unset a property of it, and those that count edges and vertices and tell of a vertex's neighbours.
+    pub fn apply(&mut self, call: &Call) -> Result<Reply, ModelRefused>
+        requires { Stands call.now }
+        ensures shape { self.new.shape ≡ self.old.shape }
+        ensures reply { IfOk result (λ reply. reply ≡ reply_to self.old.shape self.old.graph call.now) }
+        ensures graph { OnOk result (self.new.graph ≡ graph_after_call self.old.shape self.old.graph call.now) }
+    {
+        match call {
+            Call::NewLabel { name } => self.new_label(name),
+            Call::NewType { name, kind, many } => self.new_type(name, *kind, *many),
+            Call::Vertex { id } => self.make_vertex(*id),
+            Call::Has { id } => Ok(self.has_vertex(*id)),
+            Call::DropVertex { id } => self.drop_vertex(*id),
+            Call::Tag { id, label } => self.tag(*id, label),
+            Call::Untag { id, label } => self.untag(*id, label),
+            Call::Set { id, prop, value } => self.set_prop(*id, prop, value),
+            Call::Add { id, prop, value } => self.add_prop(*id, prop, value),
+            Call::Get { id, prop } => self.get_prop(*id, prop),
+            Call::Unset { id, prop } => Ok(self.unset_prop(*id, prop)),
+            Call::Edge {
+                source,
+                target,
+                label,
+            } => self.make_edge(*source, *target, false, label),
+            Call::UEdge {
+                source,
+                target,
+                label,
+            } => self.make_edge(*source, *target, true, label),
+            _ => self.apply_to_edge(call),
+        }
+    }
+
+    // The calls on an edge that is there.
+    fn apply_to_edge(&mut self, call: &Call) -> Result<Reply, ModelRefused>
+        requires { IsOnEdge call.now }
+        ensures shape { self.new.shape ≡ self.old.shape }
+        ensures answer { IfOk result (Answers self.old call.now self.new) }
+    {
+        match call {
+            Call::Cut { source, ordinal } => self.cut(*source, *ordinal),
+            Call::Target { source, ordinal } => self.target(*source, *ordinal),
+            Call::ETag {
+                source,
+                ordinal,
+                label,
+            } => self.tag_edge(*source, *ordinal, label),
+            Call::EUntag {
+                source,
+                ordinal,
+                label,
+            } => self.untag_edge(*source, *ordinal, label),
+            Call::ESet {
+                source,
+                ordinal,
+                prop,
+                value,
+            } => self.set_edge_prop(*source, *ordinal, prop, value),
+            Call::EAdd {
+                source,
+                ordinal,
+                prop,
+                value,
+            } => self.add_edge_prop(*source, *ordinal, prop, value),
+            Call::EGet {
+                source,
+                ordinal,
+                prop,
+            } => self.get_edge_prop(*source, *ordinal, prop),
+            Call::EUnset {
+                source,
+                ordinal,
+                prop,
+            } => self.unset_edge_prop(*source, *ordinal, prop),
+            _ => self.list(call),
+        }
+    }
+
+    /// Does the calls of a transaction in order and answers their replies. One that aborts leaves the graph as it was.
+    pub fn run(&mut self, txn: &Txn) -> Result<ReplyList, ModelRefused>
+        requires { AllByRecursion Stands txn.now.calls }
+        ensures shape { self.new.shape ≡ self.old.shape }
+        ensures replies { IfOk result (λ replies. replies ≡ replies_to self.old.shape self.old.graph txn.now) }
+        ensures graph { OnOk result (self.new.graph ≡ graph_after_txn self.old.shape self.old.graph txn.now) }
+    {
+        if txn.aborts {
+            let mut copy = self.copy()?;
+            return copy.run_calls(txn.calls.as_slice());
+        }
+        self.run_calls(txn.calls.as_slice())
+    }
+
+    fn run_calls(&mut self, calls: &[Call]) -> Result<ReplyList, ModelRefused>
+        requires { AllByRecursion Stands calls.now }
+        ensures shape { self.new.shape ≡ self.old.shape }
+        ensures replies { IfOk result (λ replies. replies ≡ replies_to_calls self.old.shape self.old.graph calls.now) }
+        ensures graph { OnOk result (self.new.graph ≡ graph_after_calls self.old.shape self.old.graph calls.now) }
+    {
+        let mut replies = ReplyList::new(self.alloc);
+        for call in calls {
+            let reply = self.apply(call)?;
+            replies.push(reply)?;
+        }
+        Ok(replies)
+    }
+
+    fn copy(&self) -> Result<MapGraph, NoMemory>
+        ensures { IfOk result (λ copied. copied ≡ self.now) }
+    {
+        Ok(MapGraph {
+            alloc: self.alloc,
+            geometry: self.geometry,
+            labels: self.labels.copy(self.alloc)?,
+            types: self.types.copy(self.alloc)?,
+            name_words: self.name_words,
+            vertices: copy_of_map(self.alloc, &self.vertices)?,
+            edges: copy_of_map(self.alloc, &self.edges)?,
+            torn: self.torn,
+            bucket_counts: self.bucket_counts.copy(self.alloc)?,
+            slot_counts: self.slot_counts.copy(self.alloc)?,
+            outgoing: self.outgoing.copy(self.alloc)?,
+            incoming: self.incoming.copy(self.alloc)?,
+        })
+    }
+}
