@@ -20,6 +20,7 @@ mod rights;
 mod spares;
 mod splits;
 mod stamps;
+mod truths;
 mod words;
 
 pub use commits::Enters;

@@ -1,6 +1,10 @@
-//! Moving parts of transactions over a window: whole objects are loaded.
+//! Moving parts of transactions over a window: whole objects are loaded, and locks are left.
 #![tactic(auto)]
 
+mod held;
+mod leaving;
 mod loading;
 
+pub use held::{HeldObjects, Mode};
+pub use leaving::leave_all;
 pub use loading::{Blocks, Loaded, load};

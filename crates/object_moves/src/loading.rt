@@ -123,7 +123,7 @@ fn payload<L: Law>(
 }
 
 /// The block that a link names.
-fn pointer(link: u64) -> DPtr
+pub(crate) fn pointer(link: u64) -> DPtr
     ensures { result ≡ place_of link }
 {
     DPtr::new((link >> 48) as u16, link & ((1 << 48) - 1))

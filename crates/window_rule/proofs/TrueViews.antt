@@ -1,5 +1,5 @@
 -- What the invariant says of one view alone.
-use Rattle.std.proofs.Common.{◌≡◌, ℕ, List, [], ◌∷◌, ◌++◌, set, sym, ap, subst, arith, Some}
+use Rattle.std.proofs.Common.{◌≡◌, ℕ, List, [], ◌∷◌, ◌++◌, ◌<◌, set, refl, sym, ap, subst, arith, Some}
 use Rattle.std.specs.List.{All, AllByRecursion}
 use Rattle.std.proofs.lemmas.List.Elements.{All-from_recursion, recursion_from_All}
 use mathlib.Core.Option.{some}
@@ -22,6 +22,8 @@ use Rattle.window_rule.proofs.WordFunctions.{is_block-tells, with_word-same}
 use Rattle.window_rule.proofs.PartitionKept.{share-tells, share-le, two_shares}
 use Rattle.window_rule.proofs.ViewsKept.{part_before, set_here_at}
 use Rattle.window_rule.proofs.GetSteps.{known_kept}
+use Rattle.window_rule.proofs.LengthRead.{load_goes}
+use Rattle.window_rule.proofs.NoteSteps.{notes_change}
 
 each_first : {N : Type 0} (Holds : Contents → Entry N → Type 0) (contents : Contents)
     (one rest : List (Entry N)) → EachEntry Holds contents (one ++ rest)
@@ -58,6 +60,9 @@ module _ {N : Type 0} (fits : Shape → Entry N → Type 0) (shape : Shape) (wor
         };
         fitting = all_first (fits shape) view.seen begins.0
             (subst (AllByRecursion (fits shape)) (sym begins.1) h.history.fitting);
+        ranked = all_first (λ (entry : Entry N). entry.rank < shape.ranks) view.seen begins.0
+            (subst (AllByRecursion (λ (entry : Entry N). entry.rank < shape.ranks)) (sym begins.1)
+            h.history.ranked);
         own = chronicle.own;
         knows = h.memory id view there;
         full = λ object known is.
@@ -138,4 +143,19 @@ witnessed fits shape word before Told may = record {
           },
         );
       };
+}
+
+-- a load that tells nothing of the word leaves the view as it is
+pub look_permitted : {N : Type 0} (fits : Shape → Entry N → Type 0) (shape : Shape) (word : Word)
+    (before : View N)
+    → Permits fits shape word (λ found. found) before (λ _ after. after ≡ before)
+look_permitted fits shape word before = record {
+  goes = λ words views id now small.
+      load_goes fits shape words word views id before (λ after. after ≡ before) (record {
+        after = before;
+        lawful = notes_change fits shape words views id before now before refl refl refl
+            (now.lawful.holds.notes id before now.there);
+        same_rights = refl;
+        told = refl;
+      });
 }

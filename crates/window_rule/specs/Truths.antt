@@ -32,6 +32,8 @@ pub record IsTrueView {N : Type 0} (fits : Shape → Entry N → Type 0) (shape 
     (view : View N) : Type 0 where
   pub legal : IsLegalHistory true shape view.seen
   pub fitting : AllByRecursion (fits shape) view.seen
+  -- each entry was made under one of the window's ranks
+  pub ranked : AllByRecursion (λ (entry : Entry N). entry.rank < shape.ranks) view.seen
   pub own : view.own ≡ numbers_from 0 view.rights view.seen
   -- what it knows is of blocks of the window, and is what the history that it has seen gives
   pub knows : Remembers shape (memory_of view)

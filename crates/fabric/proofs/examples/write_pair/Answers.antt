@@ -1,4 +1,4 @@
-use Rattle.std.proofs.Common.{◌<◌, ap, ◌∙◌, subst, sym}
+use Rattle.std.proofs.Common.{ap, ◌∙◌, subst, sym}
 use Rattle.window_rule.specs.View.{Marked}
 use Rattle.window_rule.specs.Steps.{locked, tried}
 use Rattle.window_rule.specs.Pairs.{pair_entry}
