@@ -12,9 +12,9 @@ use Rattle.graph_model.specs.Maps.{Map, is_there, with_at}
 use Rattle.graph_model.specs.Graph.{Vertex, new_vertex}
 use Rattle.graph_model.specs.Sizes.{is_too_large}
 use Rattle.graph_model.proofs.VertexSteps.{is_bucket_full}
-use Rattle.map_graph.specs.Counts.{count_of}
+use Rattle.graph_parts.specs.Counts.{count_of}
 use Rattle.map_graph.specs.Plain.{led_to_by, CountsBuckets}
-use Rattle.map_graph.proofs.OrderedMaps.{insert_entry-with_at, count_by-with_at, count_by-remove_entry, count_by-set_value}
+use Rattle.graph_parts.proofs.OrderedMaps.{insert_entry-with_at, count_by-with_at, count_by-remove_entry, count_by-set_value}
 
 -- the pointer to a vertex's bucket
 abbrev pub raw_bucket : Shape → ℕ → ℕ

@@ -21,7 +21,7 @@ use Rattle.edge_index.specs.Index.{source_of, target_of}
 use Rattle.edge_index.proofs.OrderedEntries.{lookup-find, set_value-put, insert_entry-put}
 use Rattle.edge_index.proofs.EdgeMaps.{index-written, edge_removed, is_named, length-filter-put}
 use Rattle.map_graph.specs.Plain.{Plain, graph_of, IsBetween, IsCounted, with_new_edge}
-use Rattle.map_graph.proofs.OrderedMaps.{lookup-at, set_value-with_at}
+use Rattle.graph_parts.proofs.OrderedMaps.{lookup-at, set_value-with_at}
 use Rattle.map_graph.proofs.Ends.{between, ends-put, ends-left, ends-written, next_is_free, at-with_at, at-put, still}
 
 module _ (shape : Shape) (labels : List Name) (types : List PropType) (vertices : Map ℕ Vertex) (edges : Map EdgeKey Edge) (now : Plain) (seen : (record { shape = shape; graph = graph_of labels types vertices edges }) ≡ now) (key : EdgeKey) where

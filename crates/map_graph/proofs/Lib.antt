@@ -1,7 +1,3 @@
-pub mod OrderedMaps
-pub mod Weights
-pub mod Props
-pub mod Tallies
 pub mod Buckets
 pub mod CallAnswers
 pub mod EdgeAnswers

@@ -14,10 +14,10 @@ use Rattle.graph_model.specs.Maps.{Map, at, is_there, with_at, has, add}
 use Rattle.graph_model.specs.Graph.{Vertex, new_vertex}
 use Rattle.graph_model.specs.Sizes.{is_too_large}
 use Rattle.graph_model.proofs.Entries.{nothing}
-use Rattle.map_graph.specs.Counts.{count_of}
-use Rattle.map_graph.specs.Plain.{labels_kept, kept_by, CountsSlots}
-use Rattle.map_graph.proofs.OrderedMaps.{lookup-at, set_value-with_at, count_by-add}
-use Rattle.map_graph.proofs.Weights.{weight_at, weighed-with_at, weighed-removed}
+use Rattle.graph_parts.specs.Counts.{count_of, labels_kept}
+use Rattle.map_graph.specs.Plain.{kept_by, CountsSlots}
+use Rattle.graph_parts.proofs.OrderedMaps.{lookup-at, set_value-with_at, count_by-add}
+use Rattle.graph_parts.proofs.Weights.{weight_at, weighed-with_at, weighed-removed}
 use Rattle.map_graph.proofs.Buckets.{same_place-raw}
 
 -- the pointer to the object that keeps a label of a vertex

@@ -12,8 +12,9 @@ use Rattle.graph_model.specs.VertexCalls.{with_vertex}
 use Rattle.graph_model.proofs.Entries.{same_value, never}
 use Rattle.std.specs.List.{AllByRecursion}
 use Rattle.map_graph.proofs.Ends.{ends-written}
-use Rattle.map_graph.specs.Plain.{Plain, graph_of, IsBetween, IsCounted, CountsBuckets, CountsSlots, labels_kept, kept_by}
-use Rattle.map_graph.proofs.OrderedMaps.{lookup-at, set_value-with_at}
+use Rattle.map_graph.specs.Plain.{Plain, graph_of, IsBetween, IsCounted, CountsBuckets, CountsSlots, kept_by}
+use Rattle.graph_parts.specs.Counts.{labels_kept}
+use Rattle.graph_parts.proofs.OrderedMaps.{lookup-at, set_value-with_at}
 use Rattle.map_graph.proofs.Buckets.{buckets-written}
 use Rattle.map_graph.proofs.Slots.{kept-changed}
 

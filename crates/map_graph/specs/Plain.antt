@@ -5,7 +5,7 @@ use Rattle.gdi_kinds.specs.declared.call.Call.{Call}
 use Rattle.gdi_kinds.specs.declared.call.Call.TheVariants.{NewLabel, NewType, Vertex as MakeVertex, Has, DropVertex, Tag, Untag, Set, Add, Get, Unset, Edge as MakeEdge, UEdge, Cut, Target, ETag, EUntag, ESet, EAdd, EGet, EUnset, Near, Degree, Vertices, Arcs}
 use Rattle.gdi_kinds.specs.declared.reply.Reply.{Reply}
 use Rattle.rma_layout.specs.Shape.{Shape}
-use Rattle.rma_layout.specs.Placement.{raw_of, bucket_of, slot_of}
+use Rattle.rma_layout.specs.Placement.{raw_of, bucket_of}
 use Rattle.graph_model.specs.Maps.{Map, at}
 use Rattle.graph_model.specs.Graph.{Name, PropType, Graph, Vertex, Edge, EdgeKey}
 use Rattle.graph_model.specs.Sizes.{most_words, words_of_bytes}
@@ -14,7 +14,7 @@ use Rattle.graph_model.specs.VertexCalls.{with_vertex}
 use Rattle.graph_model.specs.EdgeCalls.{with_edge}
 use Rattle.graph_model.specs.Calls.{answer_to}
 use Rattle.edge_index.specs.Index.{source_of, target_of, Indexes}
-use Rattle.map_graph.specs.Counts.{count_of}
+use Rattle.graph_parts.specs.Counts.{count_of, labels_kept}
 
 pub record Plain : Type 0 where
   pub shape : Shape
@@ -48,10 +48,7 @@ led_to_by shape vertices raw = count_by (λ entry. raw_of (bucket_of shape entry
 abbrev pub CountsBuckets : Shape → Map ℕ Vertex → Map ℕ ℕ → Type 0
 CountsBuckets shape vertices counts = (raw : ℕ) → count_of counts raw ≡ led_to_by shape vertices raw
 
--- how many labels of a vertex the object of the index with this pointer keeps, and how many of all vertices
-abbrev pub labels_kept : Shape → ℕ → List ℕ → ℕ → ℕ
-labels_kept shape id labels raw = count_by (λ label. raw_of (slot_of shape label id) == raw) labels
-
+-- how many labels of all vertices the object of the index with this pointer keeps
 abbrev pub kept_by : Shape → Map ℕ Vertex → ℕ → ℕ
 kept_by shape vertices raw = sum_by (λ entry. labels_kept shape entry.0 entry.1.labels raw) vertices
 

@@ -3,9 +3,9 @@ ghost use Rattle.std.specs.List.{filter};
 ghost use Rattle.std.specs.Option.{option_copied};
 ghost use Rattle.map_graph.specs.Lines.{entries_at, entry_of, is_wanted, line_at};
 
-use crate::held_edge::HeldEdge;
 use edge_index::{EdgeKey, KeySet};
 use gdi_kinds::{EdgeLine, EdgeList, NoMemory};
+use graph_parts::HeldEdge;
 use std::alloc::Global;
 use std::collections::BTreeMap;
 

@@ -2,13 +2,8 @@
 #![tactic(auto)]
 
 mod edge_lines;
-mod held_edge;
-mod held_props;
-mod held_type;
-mod held_vertex;
 mod map_graph;
 mod refused;
-mod tally;
 
 pub use map_graph::MapGraph;
 pub use refused::ModelRefused;

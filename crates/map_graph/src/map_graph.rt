@@ -17,12 +17,9 @@ mod tags;
 mod vertices;
 
 use crate::ModelRefused;
-use crate::held_edge::HeldEdge;
-use crate::held_type::HeldType;
-use crate::held_vertex::HeldVertex;
-use crate::tally::Tally;
 use edge_index::{EdgeIndex, EdgeKey, copy_of_map};
 use gdi_kinds::{Call, Duplicate, ListOf, NameList, NoMemory, Reply, ReplyList, Txn};
+use graph_parts::{HeldEdge, HeldType, HeldVertex, Tally};
 use rma_layout::Geometry;
 use std::alloc::Global;
 use std::collections::BTreeMap;

@@ -10,9 +10,9 @@ ghost use Rattle.graph_model.specs.EdgeCalls.{with_edge};
 ghost use Rattle.map_graph.specs.Plain.{is_among};
 
 use super::MapGraph;
-use crate::held_edge::HeldEdge;
 use edge_index::EdgeKey;
 use gdi_kinds::{NoMemory, Value};
+use graph_parts::HeldEdge;
 
 // What calls write at edges.
 impl MapGraph {

@@ -10,11 +10,9 @@ ghost use Rattle.graph_model.specs.Lookups.{label_number, type_number, kind_at, 
 ghost use Rattle.graph_model.specs.Sizes.{records_at};
 
 use super::MapGraph;
-use crate::held_edge::HeldEdge;
-use crate::held_type::HeldType;
-use crate::held_vertex::HeldVertex;
 use edge_index::EdgeKey;
 use gdi_kinds::{Kind, Name, NoMemory, Reply, Value};
+use graph_parts::{HeldEdge, HeldType, HeldVertex};
 
 // What a call looks up before it answers.
 impl MapGraph {

@@ -5,8 +5,8 @@ ghost use Rattle.map_graph.specs.Plain.{Answers};
 
 use super::MapGraph;
 use crate::ModelRefused;
-use crate::held_type::HeldType;
 use gdi_kinds::{Kind, Name, Reply};
+use graph_parts::HeldType;
 use rma_layout::MOST_WORDS;
 
 // The calls that make labels and property types.

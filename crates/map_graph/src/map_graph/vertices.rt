@@ -11,8 +11,8 @@ ghost use Rattle.map_graph.specs.Plain.{Answers, IsApart};
 
 use super::MapGraph;
 use crate::ModelRefused;
-use crate::held_vertex::HeldVertex;
 use gdi_kinds::{NoMemory, Reply, Value};
+use graph_parts::HeldVertex;
 use rma_layout::MOST_WORDS;
 
 // A bucket that leads to so many vertices has as many words as an object may have.

@@ -3,12 +3,12 @@ use Rattle.rma_layout.specs.Placement.{raw_of}
 use Rattle.gdi_kinds.specs.declared.call.Call.TheVariants.{Vertex as MakeVertex}
 use Rattle.gdi_kinds.specs.declared.reply.Reply.TheVariants.{Done, Exists, TooLarge}
 use Rattle.graph_model.specs.Maps.{with_at}
-use Rattle.map_graph.specs.Counts.{count_of}
+use Rattle.graph_parts.specs.Counts.{count_of}
 use Rattle.std.specs.List.{AllByRecursion}
 use Rattle.map_graph.specs.Plain.{Plain, graph_of, kept_by, IsBetween}
 use Rattle.map_graph.proofs.Ends.{ends-made}
 use Rattle.map_graph.proofs.Slots.{kept-made}
-use Rattle.map_graph.proofs.OrderedMaps.{lookup-at, insert_entry-with_at}
+use Rattle.graph_parts.proofs.OrderedMaps.{lookup-at, insert_entry-with_at}
 use Rattle.map_graph.proofs.Buckets.{buckets-raised, bucket_is_full, bucket_has_room}
 use Rattle.map_graph.proofs.CallAnswers.{Gives, vertex-exists, vertex-too_large, vertex-done}
 use Rattle.map_graph.proofs.map_graph.MapGraph.make_vertex.Goals as goal

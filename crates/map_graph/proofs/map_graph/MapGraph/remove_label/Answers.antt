@@ -3,7 +3,7 @@ use Rattle.graph_model.specs.Maps.{take_out}
 use Rattle.graph_model.specs.Graph.{Vertex}
 use Rattle.map_graph.proofs.Writes.{vertex-seen, vertex-missing, written, buckets-still, ends-still}
 use Rattle.map_graph.proofs.Slots.{slots-untagged, slot-counted}
-use Rattle.map_graph.specs.Counts.{count_of}
+use Rattle.graph_parts.specs.Counts.{count_of}
 use Rattle.rma_layout.specs.Placement.{raw_of}
 use Rattle.map_graph.proofs.map_graph.MapGraph.remove_label.Goals as goal
 

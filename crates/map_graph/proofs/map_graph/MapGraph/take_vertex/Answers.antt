@@ -2,9 +2,9 @@ use Rattle.std.proofs.Common.{◌≡◌, ℕ, ◌+◌, ◌≤◌, is_some, cond,
 use Rattle.std.specs.List.{AllByRecursion}
 use Rattle.rma_layout.specs.Placement.{raw_of}
 use Rattle.graph_model.specs.Maps.{without}
-use Rattle.map_graph.specs.Counts.{count_of}
+use Rattle.graph_parts.specs.Counts.{count_of}
 use Rattle.map_graph.specs.Plain.{Plain, graph_of, kept_by, IsBetween, IsApart}
-use Rattle.map_graph.proofs.OrderedMaps.{lookup-at, removed}
+use Rattle.graph_parts.proofs.OrderedMaps.{lookup-at, removed}
 use Rattle.map_graph.proofs.Buckets.{buckets-lowered, some_counted}
 use Rattle.map_graph.proofs.Slots.{kept-removed}
 use Rattle.map_graph.proofs.Ends.{ends-dropped}

@@ -1,7 +1,7 @@
 use Rattle.std.proofs.Common.{ap, ◌∙◌}
 use Rattle.graph_model.specs.Graph.{vertex_at}
 use Rattle.map_graph.specs.Plain.{Plain}
-use Rattle.map_graph.proofs.OrderedMaps.{lookup-at}
+use Rattle.graph_parts.proofs.OrderedMaps.{lookup-at}
 use Rattle.map_graph.proofs.map_graph.MapGraph.vertex.Goals as goal
 
 pub returns : goal.returns

@@ -1,7 +1,7 @@
 use Rattle.std.proofs.Common.{◌≡◌, suc, ◌-◌, ◌<◌, length, map, drop, sym, ap, ◌∙◌, arith}
 use Rattle.graph_model.specs.Maps.{set_of, add}
 use Rattle.graph_model.specs.ListCalls.{other_end}
-use Rattle.map_graph.proofs.OrderedMaps.{added}
+use Rattle.graph_parts.proofs.OrderedMaps.{added}
 use Rattle.map_graph.proofs.EdgeLines.{end_more}
 use Rattle.map_graph.proofs.map_graph.lists.other_ends.Goals as goal
 

@@ -1,0 +1,4 @@
+pub mod OrderedMaps
+pub mod Weights
+pub mod Props
+pub mod Tallies

@@ -1,0 +1,16 @@
+use Rattle.std.proofs.Common.{ℕ, cond, eqb, ap, ◌∙◌, arith}
+use Rattle.std.proofs.lemmas.List.Sums.{sum_by-cons}
+use Rattle.rma_layout.specs.Placement.{raw_of, slot_of}
+use Rattle.graph_parts.specs.Counts.{labels_kept}
+use Rattle.graph_parts.proofs.held_vertex.HeldVertex.uncount_labels.Goals as goal
+
+pub loop-label-preserved : goal.loop-label-preserved
+loop-label-preserved c =
+    let pointer = c.raw.ensures.value ∙ ap raw_of c.slot.ensures.value in
+    let one = λ (q : ℕ). ap {B = ℕ} (λ raw. cond (eqb raw q) 1 0) pointer in
+    let kept = λ (q : ℕ). ap (λ labels. labels_kept c.args.geometry.now c.args.id labels q) c.in-Some.ensures.steps in
+    let split = λ (q : ℕ). sum_by-cons (λ (l : ℕ). cond (eqb (raw_of (slot_of c.args.geometry.now l c.args.id)) q) 1 0) c.in-Some.label.now c.next.new.self in
+    record {
+      enough = λ q. omega (arith, c.loop-label.invariant.enough q, c.in_ok-lower.ensures q, one q, kept q, split q);
+      left = λ q. omega (arith, c.loop-label.invariant.left q, c.in_ok-lower.ensures q, one q, kept q, split q);
+    }

@@ -1,0 +1,11 @@
+use Rattle.std.proofs.Common.{◌≡◌, ℕ, ◌+◌, ◌≤◌}
+use Rattle.graph_parts.specs.Counts.{count_of}
+use Rattle.graph_parts.specs.Counts.{labels_kept}
+use Rattle.graph_parts.proofs.held_vertex.HeldVertex.uncount_labels.Given as goal
+
+-- what is counted so far, and what is to come
+abbrev pub invariant-loop-label : goal.invariant-loop-label
+invariant-loop-label l = record {
+  enough : (q : ℕ) → labels_kept l.geometry l.id l.label-iterator q ≤ count_of l.counts q;
+  left : (q : ℕ) → count_of l.counts q + labels_kept l.geometry l.id l.fn.self.labels q ≡ count_of l.fn.counts q + labels_kept l.geometry l.id l.label-iterator q;
+}
