@@ -80,6 +80,13 @@ impl HeldEdge {
         self.labels.len() as u64 + 1
     }
 
+    /// The numbers of its labels.
+    pub fn labels(&self) -> &BTreeSet<u32, Global>
+        ensures { result.now.keys ≡ self.now.labels }
+    {
+        &self.labels
+    }
+
     pub fn has_label(&self, label: u32) -> bool
         ensures { result ≡ has self.now.labels label }
     {

@@ -64,6 +64,13 @@ impl HeldProps {
         self.values.get(&ty)
     }
 
+    /// The values of all types, by the types' numbers.
+    pub fn values(&self) -> &BTreeMap<u32, ValueList, Global>
+        ensures { result.now.entries ≡ self.now }
+    {
+        &self.values
+    }
+
     pub fn has(&self, ty: u32) -> bool
         ensures { result ≡ is_there self.now ty }
     {

@@ -1,0 +1,5 @@
+pub mod Bools
+pub mod Rows
+pub mod Marking
+pub mod Fronts
+pub mod Naming
