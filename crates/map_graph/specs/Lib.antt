@@ -1,3 +1,4 @@
 pub mod Counts
 pub mod Plain
 pub mod Lines
+pub mod Noted

@@ -6,9 +6,12 @@ mod held_edge;
 mod held_props;
 mod held_type;
 mod held_vertex;
+mod journal;
 mod map_graph;
 mod refused;
 mod tally;
+mod undo;
 
+pub use journal::Journal;
 pub use map_graph::MapGraph;
 pub use refused::ModelRefused;
