@@ -104,6 +104,22 @@ impl HeldVertex {
         self.labels.remove(&label);
     }
 
+    /// Counts its labels for the objects of the index that keep them.
+    pub fn count_labels(
+        &self,
+        geometry: &Geometry,
+        id: u64,
+        counts: &mut Tally,
+    ) -> Result<(), NoMemory>
+        ensures { OnOk result ((q : ℕ)
+            → count_of counts.new q ≡ count_of counts.old q + labels_kept geometry.now id self.now.labels q) }
+    {
+        for label in &self.labels {
+            counts.raise(geometry.slot(*label, id).raw())?;
+        }
+        Ok(())
+    }
+
     /// Takes its labels out of the counts of the objects of the index.
     pub fn uncount_labels(
         &self,

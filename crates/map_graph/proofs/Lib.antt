@@ -9,3 +9,6 @@ pub mod Writes
 pub mod Places
 pub mod Slots
 pub mod Standing
+pub mod PutBack
+pub mod Noting
+pub mod Fronts

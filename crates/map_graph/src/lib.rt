@@ -2,8 +2,11 @@
 #![tactic(auto)]
 
 mod edge_lines;
+mod journal;
 mod map_graph;
 mod refused;
+mod undo;
 
+pub use journal::Journal;
 pub use map_graph::MapGraph;
 pub use refused::ModelRefused;

@@ -12,13 +12,16 @@ mod edges;
 mod lists;
 mod looks;
 mod names;
+mod noted;
+mod notes;
 mod props;
+mod restore;
 mod tags;
 mod vertices;
 
 use crate::ModelRefused;
-use edge_index::{EdgeIndex, EdgeKey, copy_of_map};
-use gdi_kinds::{Call, Duplicate, ListOf, NameList, NoMemory, Reply, ReplyList, Txn};
+use edge_index::{EdgeIndex, EdgeKey};
+use gdi_kinds::{Call, ListOf, NameList, Reply, ReplyList, Txn};
 use graph_parts::{HeldEdge, HeldType, HeldVertex, Tally};
 use rma_layout::Geometry;
 use std::alloc::Global;
@@ -173,8 +176,7 @@ impl MapGraph {
         ensures graph { OnOk result (self.new.graph ≡ graph_after_txn self.old.shape self.old.graph txn.now) }
     {
         if txn.aborts {
-            let mut copy = self.copy()?;
-            return copy.run_calls(txn.calls.as_slice());
+            return self.run_and_take_back(txn.calls.as_slice());
         }
         self.run_calls(txn.calls.as_slice())
     }
@@ -191,24 +193,5 @@ impl MapGraph {
             replies.push(reply)?;
         }
         Ok(replies)
-    }
-
-    fn copy(&self) -> Result<MapGraph, NoMemory>
-        ensures { IfOk result (λ copied. copied ≡ self.now) }
-    {
-        Ok(MapGraph {
-            alloc: self.alloc,
-            geometry: self.geometry,
-            labels: self.labels.copy(self.alloc)?,
-            types: self.types.copy(self.alloc)?,
-            name_words: self.name_words,
-            vertices: copy_of_map(self.alloc, &self.vertices)?,
-            edges: copy_of_map(self.alloc, &self.edges)?,
-            torn: self.torn,
-            bucket_counts: self.bucket_counts.copy(self.alloc)?,
-            slot_counts: self.slot_counts.copy(self.alloc)?,
-            outgoing: self.outgoing.copy(self.alloc)?,
-            incoming: self.incoming.copy(self.alloc)?,
-        })
     }
 }

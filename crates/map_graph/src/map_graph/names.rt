@@ -50,7 +50,7 @@ impl MapGraph {
 }
 
 // The words of a name's bytes.
-fn words_of_name(name: &Name) -> u64
+pub(super) fn words_of_name(name: &Name) -> u64
     ensures value { result ≡ words_of_bytes (length name.now) }
     ensures within { result ≤ 2 ^ 62 }
 {

@@ -65,7 +65,7 @@ impl MapGraph {
     }
 
     // Takes out a vertex that has no edges.
-    fn take_vertex(&mut self, id: u64) -> Result<(), NoMemory>
+    pub(super) fn take_vertex(&mut self, id: u64) -> Result<(), NoMemory>
         requires there { IsSome (vertex_at self.old.graph id) }
         requires alone { AllByRecursion (IsApart id) self.old.graph.edges }
         ensures shape { self.new.shape ≡ self.old.shape }

@@ -1,0 +1,3 @@
+pub mod PutBack
+pub mod RolledBack
+pub mod CallsUndone
