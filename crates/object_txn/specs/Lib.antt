@@ -1,0 +1,5 @@
+pub mod State
+pub mod Tied
+pub mod Causes
+pub mod Moves
+pub mod Endings

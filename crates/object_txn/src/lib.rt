@@ -1,0 +1,14 @@
+//! Transactions on objects over a window.
+#![tactic(auto)]
+
+mod ending;
+mod locking;
+mod making;
+mod reading;
+mod refused;
+mod txn;
+mod window_store;
+mod writing;
+
+pub use refused::TxnRefused;
+pub use window_store::WindowStore;
