@@ -23,8 +23,8 @@ use Rattle.held_objects.proofs.Knows.{knows_after, still}
 use Rattle.vertex_ops.specs.Vertices.{HeldVertex, IsOrderly, KnowsVertex, holder_for}
 use Rattle.edge_ops.specs.declared.ends.Ends.{Ends}
 use Rattle.edge_ops.specs.Ends.{HeldEnds, HoldsEnds, MakesEdge, as_ends, into_of, out_of, reply_to_make, with_edge, with_in, with_out}
-use Rattle.edge_ops.specs.Ending.{AreHolders, AreOf, SettlesEnds, WritesEnds, are_too_large, ends_made, holder_with_in, holder_with_out, new_edge, target_of}
-use Rattle.edge_ops.proofs.Finding.{FindsEnds, found_is}
+use Rattle.edge_ops.specs.Ending.{AreHolders, AreOf, FindsEnds, SettlesEnds, WritesEnds, are_too_large, ends_made, holder_with_in, holder_with_out, new_edge, target_of}
+use Rattle.edge_ops.proofs.Finding.{found_is}
 use Rattle.edge_ops.proofs.EndsWritten.{ends_hold, in_order_now, made_alike, orderly_both, too_large_either, are_of_made}
 
 module _ {N : Type 0} {source target : Place} {old mid : StoreState N} {ends : Ends} (found : FindsEnds source target old mid ends) (labels : List ℕ) (undirected : Bool) where

@@ -2,3 +2,7 @@ pub mod Records
 pub mod Lines
 pub mod Ends
 pub mod Ending
+pub mod HeldEdges
+pub mod Loading
+pub mod Opening
+pub mod Cutting

@@ -4,9 +4,16 @@
 mod beside;
 mod calls;
 mod ends;
+mod found_edge;
 mod new_edge;
+mod opened;
+mod own_object;
 mod records;
 mod settle_ends;
+mod without;
 
+pub use calls::cut::cut;
 pub use calls::lines::lines;
+pub use calls::load::load;
 pub use calls::make::make;
+pub use found_edge::FoundEdge;
