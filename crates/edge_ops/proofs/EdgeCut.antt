@@ -164,8 +164,8 @@ module _ {N : Type 0} {source : Place} {ordinal : ℕ} {old mid : StoreState N} 
             ends_stay after_ordered is source opened.edge.other_at (λ same. held_own.0.not_source (held_own.1 ∙ sym same)) (λ same. held_own.0.not_target (held_own.1 ∙ (sym same ∙ sym target_is))) store _ ends_then
 
         own_now : (form : EdgeForm) → opened.edge.form ≡ form → Cleared form → is_heavy e.one.edge ≡ true → content_of (overlay store new.writes) e.one.own_at ≡ []
-        own_now Plain form is heavy = absurd (light_alone e.one (ap (λ (r : EdgeRecord). r.form) e.of ∙ form) heavy)
-        own_now (Labelled l) form is heavy = absurd (light_alone e.one (ap (λ (r : EdgeRecord). r.form) e.of ∙ form) heavy)
+        own_now Plain form is heavy = absurd (light_alone e.one Plain (ap (λ (r : EdgeRecord). r.form) e.of ∙ form) heavy)
+        own_now (Labelled l) form is heavy = absurd (light_alone e.one (Labelled l) (ap (λ (r : EdgeRecord). r.form) e.of ∙ form) heavy)
         own_now (Heavy own) form is heavy =
             subst (λ (place : Place). content_of (overlay store new.writes) place ≡ []) (sym (own_held e own form).1)
             (ap (λ (w : Contents). content_of (overlay store w) own) is.writes

@@ -3,6 +3,7 @@ pub mod RecordLists
 pub mod Finding
 pub mod EdgesFound
 pub mod EndsWritten
+pub mod Opening
 pub mod EndsChanged
 pub mod NewEdge
 pub mod EdgeCut

@@ -115,12 +115,12 @@ record_taken_out key es i found rising is there =
 -- where there is none of the key, nothing goes
 pub none_taken_out : (key : Key) (es : List EdgeRecord) → record_for es key ≡ None → without_record key es ≡ es
 none_taken_out key [] none = refl
-none_taken_out key (e ∷ es) none = cases (eq_by_cmp key_cmp key (key_of e)) refl none
+none_taken_out key (e ∷ es) none = cases (eq_by_cmp key_cmp key (key_of e)) refl none (none_taken_out key es)
   where
-    cases : (tie : Bool) → eq_by_cmp key_cmp key (key_of e) ≡ tie → cond tie (Some e) (record_for es key) ≡ None → without_record key (e ∷ es) ≡ e ∷ es
-    cases true tie some = nothing e (sym some)
-    cases false tie rest =
-        ap (λ b. cond (not b) (e ∷ without_record key es) (without_record key es)) tie ∙ ap (λ (others : List EdgeRecord). e ∷ others) (none_taken_out key es rest)
+    cases : (tie : Bool) → eq_by_cmp key_cmp key (key_of e) ≡ tie → cond tie (Some e) (record_for es key) ≡ None → (record_for es key ≡ None → without_record key es ≡ es) → without_record key (e ∷ es) ≡ e ∷ es
+    cases true tie some _ = nothing e (sym some)
+    cases false tie rest behind =
+        ap (λ b. cond (not b) (e ∷ without_record key es) (without_record key es)) tie ∙ ap (λ (others : List EdgeRecord). e ∷ others) (behind rest)
 
 -- what is asked for after records of a key went
 pub record_for-without : (key : Key) (es : List EdgeRecord) (k : Key) → record_for (without_record key es) k ≡ cond (not (eq_by_cmp key_cmp key k)) (record_for es k) None

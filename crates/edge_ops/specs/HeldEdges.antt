@@ -1,7 +1,7 @@
 -- A vertex and an edge from it, as the objects at the edge hold them: the source's, the target's, and the edge's own.
-use Rattle.std.specs.Prelude.{◌≡◌, ◌≢◌, ◌≤◌, ℕ, Bool, true, List, length, Option, Some, is_some, MatchOption, ◌⊎◌, if◌then◌else◌}
+use Rattle.std.specs.Prelude.{◌≡◌, ◌≢◌, ◌≤◌, ℕ, Bool, true, false, ◌&&◌, ◌==◌, List, length, Option, Some, is_some, MatchOption, ◌⊎◌, if◌then◌else◌}
 use Rattle.std.specs.List.{AllByRecursion}
-use Rattle.std.specs.Option.{option_map}
+use Rattle.std.specs.Option.{option_map, option_map_or}
 use Rattle.std.specs.Ordering.{nat_cmp}
 use Rattle.rma_layout.specs.Shape.{Shape}
 use Rattle.rma_layout.specs.Placement.{Place, IsBlock}
@@ -106,6 +106,10 @@ KnowsOut source ordinal passes = Knows (λ shape. Holds (HoldsOut shape source o
 
 abbrev pub has_edge : HeldOut → Bool
 has_edge held = is_some held.found
+
+-- there is an edge, and it is from this vertex to that one
+abbrev pub is_edge_to : ℕ → ℕ → HeldOut → Bool
+is_edge_to id target held = held.source.id == id && option_map_or (λ edge. edge.edge.target == target) held.found false
 
 -- ---- which objects are at an edge
 

@@ -1,5 +1,5 @@
 -- An edge as it is loaded.
-use Rattle.std.specs.Prelude.{◌≡◌, ℕ, Bool, true, List, [], ◌∷◌, Option, is_some, ◌≢◌}
+use Rattle.std.specs.Prelude.{◌≡◌, ℕ, Bool, Option, MatchOption}
 use Rattle.std.specs.Option.{option_map}
 use Rattle.rma_layout.specs.Placement.{Place}
 use Rattle.object_store.specs.State.{StoreState}
@@ -7,7 +7,7 @@ use Rattle.object_store.specs.Works.{Looks}
 use Rattle.holder_codec.specs.Knowing.{Wherever}
 use Rattle.held_objects.specs.Changes.{any}
 use Rattle.edge_ops.specs.declared.found_edge.FoundEdge.{FoundEdge}
-use Rattle.edge_ops.specs.HeldEdges.{HeldOut, HeldEdge, HoldsOut, KnowsOut, Footprint, edge_holder_for, has_edge}
+use Rattle.edge_ops.specs.HeldEdges.{HeldOut, HeldEdge, HoldsOut, KnowsOut, Footprint, edge_holder_for, is_edge_to}
 
 -- the edge with its labels and properties, whether it is light or heavy
 abbrev pub edge_found : HeldOut → ℕ → HeldEdge → FoundEdge
@@ -22,5 +22,5 @@ module _ {N : Type 0} where
     pub footprint : Wherever new.reads old.writes (HoldsOut old.shape source ordinal) (λ _ held. Footprint source held old new)
     pub known : KnowsOut source ordinal any new
     -- an edge that was found is there
-    pub there : is_some answer ≡ true → KnowsOut source ordinal has_edge new
+    pub there : MatchOption answer (Unit {0}) (λ one. KnowsOut source ordinal (is_edge_to one.holder.source one.holder.target) new)
     pub kept : (passes : HeldOut → Bool) → KnowsOut source ordinal passes old → KnowsOut source ordinal passes new

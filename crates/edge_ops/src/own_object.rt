@@ -1,8 +1,11 @@
-ghost use Rattle.std.specs.Prelude.{◌≡◌, ◌≢◌, IfOk, OnOk};
+ghost use Rattle.std.specs.Prelude.{◌≡◌, ◌≢◌, IfOk, IsTrue, OnOk, nat_lt};
+ghost use Rattle.std.specs.List.{AllByRecursion};
 ghost use Rattle.object_store.specs.declared.phase.Phase.TheVariants.{Idle, Writing};
 ghost use Rattle.object_store.specs.Calls.{MayWrite};
 ghost use Rattle.object_store.specs.Works.{Nowhere, Works};
 ghost use Rattle.holder_codec.specs.EdgeObject.{IsEdgeHolder};
+ghost use Rattle.holder_codec.specs.Order.{is_rising};
+ghost use Rattle.holder_codec.specs.Vertex.{LabelFits};
 ghost use Rattle.holder_codec.specs.Edges.{RecordFits};
 ghost use Rattle.held_objects.specs.Knows.{Knows};
 ghost use Rattle.edge_ops.specs.Ends.{labels_of};
@@ -47,19 +50,18 @@ pub(crate) fn open_edge<L: KeepsGraph, S: Store<L>>(
     }
 }
 
+/// An edge that has a label at most, and no property.
 fn light_edge(
     alloc: Global,
     id: u64,
     edge: &EdgeRecord,
     label: Option<u32>,
 ) -> Result<EdgeHolder, NoMemory>
+    requires { RecordFits edge.now }
     ensures holder { IfOk result IsEdgeHolder }
     ensures found { IfOk result (λ found. found ≡ light_holder id edge.now (labels_of label)) }
 {
-    let mut labels = U32List::new(alloc);
-    if let Some(label) = label {
-        labels.push(label)?;
-    }
+    let labels = one_label(alloc, label)?;
     Ok(EdgeHolder {
         source: id,
         ordinal: edge.ordinal,
@@ -67,6 +69,19 @@ fn light_edge(
         labels,
         props: HeldProps::new(alloc),
     })
+}
+
+fn one_label(alloc: Global, label: Option<u32>) -> Result<U32List, NoMemory>
+    ensures labels { IfOk result (λ labels. labels ≡ labels_of label) }
+    ensures fit { IfOk result (AllByRecursion LabelFits) }
+    ensures rise { IfOk result (λ labels. IsTrue (is_rising nat_lt labels)) }
+{
+    let mut labels = U32List::new(alloc);
+    let Some(label) = label else {
+        return Ok(labels);
+    };
+    labels.push(label)?;
+    Ok(labels)
 }
 
 /// Empties the edge's own object, if it has one.

@@ -1,4 +1,4 @@
-use Rattle.std.proofs.Common.{rules, inl, inr}
+use Rattle.std.proofs.Common.{rules, inl, inr, sym}
 use Rattle.rma_layout.specs.Shape.{Shape}
 use Rattle.rma_layout.specs.Placement.{Place}
 use Rattle.object_store.specs.Works.{Nowhere}
@@ -22,10 +22,32 @@ returns-in_default-clause-works g c =
     record { went = went_wider {Whole = AtEdge c.args.source c.args.ordinal (g.S.Store.state c.args.store.now)} {Homes = Nowhere} (λ place is. inl is) (λ rank never. never) c.in_ok-from.ensures.works.went; fell = tt }
 
 pub returns-in_default-clause-loaded : goal.returns-in_default-clause-loaded
-returns-in_default-clause-loaded g c = loads_none c.in_ok-from.ensures.found c.requires.edge ? c.in_ok-from.ensures.works.went.reaches
+returns-in_default-clause-loaded g c = loads_none c.in_ok-from.ensures.found c.requires.edge (sym c.in_default.ensures.found) c.in_ok-from.ensures.works.went.reaches
 
 pub open_edge-requires-clause-own : goal.open_edge-requires-clause-own
-open_edge-requires-clause-own g c = own_is_block c.in_ok-from.ensures.found c.requires.edge c.in-Some.edge c.in-Some.ensures.found
+open_edge-requires-clause-own g c = own_is_block c.in_ok-from.ensures.found c.requires.edge c.in-Some.edge (sym c.in-Some.ensures.found)
 
 pub open_edge-requires-clause-spelled : goal.open_edge-requires-clause-spelled
-open_edge-requires-clause-spelled g c = own_known c.in_ok-from.ensures.found c.requires.edge c.in-Some.edge c.in-Some.ensures.found
+open_edge-requires-clause-spelled g c = own_known c.in_ok-from.ensures.found c.requires.edge c.in-Some.edge (sym c.in-Some.ensures.found)
+
+pub returns-in_err-holder-clause-works : goal.returns-in_err-holder-clause-works
+returns-in_err-holder-clause-works g c =
+    let reached = record_reached c.in_ok-from.ensures.found c.requires.edge c.in-Some.edge (sym c.in-Some.ensures.found) in
+    let went = went_wider {Whole = AtEdge c.args.source c.args.ordinal (g.S.Store.state c.args.store.now)} {Homes = Nowhere} (λ place is. inl is) (λ rank never. never) c.in_ok-from.ensures.works.went in
+    let did = went-fell went (fell_wider {One = AtEdge c.args.source c.args.ordinal (g.S.Store.state c.args.store.now)} {Homes = Nowhere} (λ place is. reached place (inr (inr is))) (λ rank never. never) c.in_err-holder.ensures.works.fell) in
+    search rules
+
+pub returns-clause-works : goal.returns-clause-works
+returns-clause-works g c =
+    let reached = record_reached c.in_ok-from.ensures.found c.requires.edge c.in-Some.edge (sym c.in-Some.ensures.found) in
+    record {
+      went = went-then (went_wider {Whole = AtEdge c.args.source c.args.ordinal (g.S.Store.state c.args.store.now)} {Homes = Nowhere} (λ place is. inl is) (λ rank never. never) c.in_ok-from.ensures.works.went)
+          (went_wider {Whole = AtEdge c.args.source c.args.ordinal (g.S.Store.state c.args.store.now)} {Homes = Nowhere} (λ place is. reached place (inr (inr is))) (λ rank never. never) c.in_ok-holder.ensures.works.went);
+      fell = tt;
+    }
+
+pub returns-clause-loaded : goal.returns-clause-loaded
+returns-clause-loaded g c =
+    let went = went-then (went_wider {Whole = λ _ place. IsAtRecord c.args.source c.in-Some.edge place} {Homes = Nowhere} (λ place is. inl is) (λ rank never. never) c.in_ok-from.ensures.works.went)
+        (went_wider {Whole = λ _ place. IsAtRecord c.args.source c.in-Some.edge place} {Homes = Nowhere} (λ place is. inr (inr is)) (λ rank never. never) c.in_ok-holder.ensures.works.went) in
+    loads_some c.in_ok-from.ensures.found c.requires.edge c.in-Some.edge (sym c.in-Some.ensures.found) _ _ c.in_ok-holder.ensures.found went.reaches
