@@ -32,7 +32,7 @@ use Rattle.vertex_ops.specs.Vertices.{HeldVertex, HoldsVertex, holder_for}
 use Rattle.edge_ops.specs.declared.ends.Ends.{Ends}
 use Rattle.edge_ops.specs.declared.opened.Opened.{Opened}
 use Rattle.edge_ops.specs.Cutting.{CutsEdge, IsCut, holder_without, lacks_edge, without, without_edge}
-use Rattle.edge_ops.specs.Ends.{HeldEnds, HoldsEnds, as_ends}
+use Rattle.edge_ops.specs.Ends.{HeldEnds, HoldsEnds, as_ends, ends_after}
 use Rattle.edge_ops.specs.Ending.{AreHolders, SettlesEnds, WritesEnds, are_too_large, ends_made}
 use Rattle.edge_ops.specs.HeldEdges.{Footprint, HeldEdge, HeldOut, HoldsOut, IsBeyond, KnowsOut, has_edge, in_key, out_key}
 use Rattle.edge_ops.specs.Opening.{ClearsOwn, IsAtRecord, MatchForm, OpensNone, OpensSome}
@@ -71,6 +71,9 @@ ends_without_small one other ends small = cases ends.target small
         let parts = or_parts (is_too_large (length (vertex_words ends.source))) (is_too_large (length (vertex_words to))) few in
         either _ _ (without_small ends.source one parts.0) (without_small to other parts.1)
 
+abbrev cut_ends : ℕ → Ends → Ends
+cut_ends ordinal ends = ends_made (holder_without (out_key ordinal)) (holder_without (in_key ends.source.id ordinal)) ends
+
 -- ---- neither record is left
 
 gone : (source target : Place) (ordinal id : ℕ) (vertex : HeldVertex) → record_for (as_ends source target (without (out_key ordinal)) (without (in_key id ordinal)) source vertex).edges (out_key ordinal) ≡ None
@@ -106,12 +109,9 @@ module _ {N : Type 0} {source : Place} {ordinal : ℕ} {old mid : StoreState N} 
       ordered : IsByRisingObject mid.writes
       ordered = subst IsByRisingObject (sym opened.found.looks.writes) opened.found.in_order
 
-  module _ {opened : Opened} (open : OpensSome source ordinal old mid opened) {after new : StoreState N} where
-    abbrev made : Ends
-    made = ends_made (holder_without (out_key ordinal)) (holder_without (in_key opened.ends.source.id ordinal)) opened.ends
-
-    module _ (holders : AreHolders made) (wrote : WritesEnds source opened.edge.other_at made mid after) (cleared : ClearsOwn opened.edge.form after new) (after_ordered : IsByRisingObject after.writes) (new_ordered : IsByRisingObject new.writes) where
-      Cleared : EdgeForm → Type 0
+  module _ {opened : Opened} (read : OpensSome source ordinal old mid opened) where
+    module _ (after new : StoreState N) (holders : AreHolders (cut_ends ordinal opened.ends)) (wrote : WritesEnds source opened.edge.other_at (cut_ends ordinal opened.ends) mid after) (cleared : ClearsOwn opened.edge.form after new) (after_ordered : IsByRisingObject after.writes) (new_ordered : IsByRisingObject new.writes) where
+      abbrev Cleared : EdgeForm → Type 0
       Cleared form = MatchForm form (λ _. new ≡ after) (λ own. WritesObject own [] after new)
 
       reads_are : (form : EdgeForm) → Cleared form → new.reads ≡ after.reads
@@ -130,38 +130,33 @@ module _ {N : Type 0} {source : Place} {ordinal : ℕ} {old mid : StoreState N} 
       -- the ends without the edge, once its own object is written
       module _ (store : Contents) (held : HeldOut) (agrees : Agrees mid.reads store) (has : HoldsOut old.shape source ordinal (overlay store old.writes) held) where
         e : IsOfRecord old.shape source ordinal opened.edge (overlay store old.writes) held
-        e = edge_there open.ends.source_found store held agrees has opened.edge open.record_is
+        e = edge_there read.ends.source_found store held agrees has opened.edge read.record_is
 
         target_is : e.one.target_at ≡ opened.edge.other_at
         target_is = ap (λ (r : EdgeRecord). r.other_at) e.of
 
         id_is : opened.ends.source.id ≡ held.source.id
-        id_is = ap (λ (h : VertexHolder). h.id) (found_is open.ends.source_found store held.source agrees has.at_source)
+        id_is = ap (λ (h : VertexHolder). h.id) (found_is read.ends.source_found store held.source agrees has.at_source)
 
-        both : HeldEnds
+        abbrev both : HeldEnds
         both = record { source = held.source; target = e.one.target }
 
-        ends_then : HoldsEnds source opened.edge.other_at (overlay store after.writes)
-            (record {
-              source = as_ends source opened.edge.other_at (without (out_key ordinal)) (without (in_key opened.ends.source.id ordinal)) source held.source;
-              target = as_ends source opened.edge.other_at (without (out_key ordinal)) (without (in_key opened.ends.source.id ordinal)) opened.edge.other_at e.one.target;
-            })
+        abbrev both_cut : HeldEnds
+        both_cut = ends_after source opened.edge.other_at (without (out_key ordinal)) (without (in_key opened.ends.source.id ordinal)) both
+
+        ends_then : HoldsEnds source opened.edge.other_at (overlay store after.writes) both_cut
         ends_then =
-            ends_changed open.ends (without (out_key ordinal)) (without (in_key opened.ends.source.id ordinal)) (holder_without (out_key ordinal)) (holder_without (in_key opened.ends.source.id ordinal)) (λ _. refl) (λ _. refl)
+            ends_changed read.ends (without (out_key ordinal)) (without (in_key opened.ends.source.id ordinal)) (holder_without (out_key ordinal)) (holder_without (in_key opened.ends.source.id ordinal)) (λ _. refl) (λ _. refl)
             (λ _ is. record { labels = is.labels; props = is.props; some = is.some }) (λ _ is. record { labels = is.labels; props = is.props; some = is.some }) holders
-            (ends_without_small (out_key ordinal) (in_key opened.ends.source.id ordinal) opened.ends open.small) wrote store both agrees
+            (ends_without_small (out_key ordinal) (in_key opened.ends.source.id ordinal) opened.ends read.small) wrote store both agrees
             (record { at_source = has.at_source; at_target = subst (λ (place : Place). HoldsVertex place (overlay store old.writes) e.one.target) target_is e.holds.at_target })
 
-        ends_now : (form : EdgeForm) → opened.edge.form ≡ form → Cleared form → HoldsEnds source opened.edge.other_at (overlay store new.writes)
-            (record {
-              source = as_ends source opened.edge.other_at (without (out_key ordinal)) (without (in_key opened.ends.source.id ordinal)) source held.source;
-              target = as_ends source opened.edge.other_at (without (out_key ordinal)) (without (in_key opened.ends.source.id ordinal)) opened.edge.other_at e.one.target;
-            })
-        ends_now Plain form is = subst (λ (s : StoreState N). HoldsEnds source opened.edge.other_at (overlay store s.writes) _) (sym is) ends_then
-        ends_now (Labelled l) form is = subst (λ (s : StoreState N). HoldsEnds source opened.edge.other_at (overlay store s.writes) _) (sym is) ends_then
+        ends_now : (form : EdgeForm) → opened.edge.form ≡ form → Cleared form → HoldsEnds source opened.edge.other_at (overlay store new.writes) both_cut
+        ends_now Plain form is = subst (λ (s : StoreState N). HoldsEnds source opened.edge.other_at (overlay store s.writes) both_cut) (sym is) ends_then
+        ends_now (Labelled l) form is = subst (λ (s : StoreState N). HoldsEnds source opened.edge.other_at (overlay store s.writes) both_cut) (sym is) ends_then
         ends_now (Heavy own) form is =
             let held_own = own_held e own form in
-            ends_stay after_ordered is source opened.edge.other_at (λ same. held_own.0.not_source (held_own.1 ∙ sym same)) (λ same. held_own.0.not_target (held_own.1 ∙ (sym same ∙ sym target_is))) store _ ends_then
+            ends_stay after_ordered is source opened.edge.other_at (λ same. held_own.0.not_source (held_own.1 ∙ sym same)) (λ same. held_own.0.not_target (held_own.1 ∙ (sym same ∙ sym target_is))) store both_cut ends_then
 
         own_now : (form : EdgeForm) → opened.edge.form ≡ form → Cleared form → is_heavy e.one.edge ≡ true → content_of (overlay store new.writes) e.one.own_at ≡ []
         own_now Plain form is heavy = absurd (light_alone e.one Plain (ap (λ (r : EdgeRecord). r.form) e.of ∙ form) heavy)

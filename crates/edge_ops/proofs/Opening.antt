@@ -1,10 +1,15 @@
 -- The objects at an edge, once they are read.
-use Rattle.std.proofs.Common.{◌≡◌, ◌≢◌, ◌∙◌, ℕ, ◌≤◌, Bool, true, false, ◌||◌, List, [], length, Option, Some, None, refl, sym, ap, subst, ◌⊎◌, inl, inr, arith}
-use Rattle.std.specs.Option.{MatchOption}
+use Rattle.std.proofs.Common.{◌≡◌, ◌≢◌, ◌∙◌, ℕ, ◌≤◌, Bool, true, false, ◌||◌, List, [], length, Option, Some, None, refl, sym, ap, subst, cond, IsSome, ◌⊎◌, inl, inr, arith}
+use Rattle.std.specs.Bool.{MatchBool}
+use Rattle.std.specs.Option.{MatchOption, option_map}
+use Rattle.std.specs.Ordering.{eq_by_cmp}
+use Rattle.gdi_kinds.specs.declared.reply.Reply.{Reply}
+use Rattle.gdi_kinds.specs.declared.reply.Reply.TheVariants.{TooLarge}
 use Rattle.std.proofs.lemmas.Bool.Decides.{nat_tests}
 use Rattle.rma_layout.specs.Placement.{Place, IsBlock, IsReserved}
 use Rattle.rma_layout.specs.Shape.{Shape}
-use Rattle.object_words.specs.Contents.{Contents, Agrees, content_of, overlay, words_at}
+use Rattle.object_words.specs.Contents.{Contents, Agrees, content_of, overlay, place_cmp, with_words, words_at}
+use Rattle.object_words.proofs.Places.{words_at-with_words}
 use Rattle.graph_model.specs.Sizes.{is_too_large, most_words}
 use Rattle.object_store.specs.State.{StoreState, committed}
 use Rattle.object_store.specs.Calls.{MayWrite}
@@ -18,15 +23,17 @@ use Rattle.holder_codec.specs.declared.vertex_holder.VertexHolder.{VertexHolder}
 use Rattle.holder_codec.specs.EdgeObject.{IsEdgeHolder, edge_object_words}
 use Rattle.holder_codec.specs.Edges.{RecordFits}
 use Rattle.holder_codec.specs.Vertex.{IsVertexHolder, vertex_words}
+use Rattle.held_objects.specs.declared.change.Change.TheVariants.{Made}
 use Rattle.held_objects.specs.Changes.{any}
 use Rattle.held_objects.specs.Held.{FindsHolder}
 use Rattle.held_objects.proofs.Changes.{may_write}
 use Rattle.held_objects.proofs.Knows.{before}
 use Rattle.vertex_ops.proofs.LabelSets.{some_words}
 use Rattle.edge_ops.specs.declared.ends.Ends.{Ends}
+use Rattle.edge_ops.specs.declared.opened.Opened.{Opened}
 use Rattle.edge_ops.specs.HeldEdges.{HeldOut, HoldsOut, KnowsOut, out_key}
-use Rattle.edge_ops.specs.Ending.{FindsBeside, FindsEnds, are_too_large, target_of}
-use Rattle.edge_ops.specs.Opening.{FindsEdge, IsAtRecord, MatchForm, OpensSome, OwnIsOpen, light_holder}
+use Rattle.edge_ops.specs.Ending.{FindsBeside, FindsEnds, SettlesEnds, WritesEnds, are_too_large, target_of, written}
+use Rattle.edge_ops.specs.Opening.{FindsEdge, IsAtRecord, MatchForm, OpensEnds, OpensNone, OpensSome, OwnIsBlock, OwnIsOpen, light_holder}
 use Rattle.edge_ops.specs.Records.{record_for}
 use Rattle.edge_ops.proofs.EdgesFound.{IsOfRecord, edge_there, own_held, target_is_block}
 use Rattle.edge_ops.proofs.EndsWritten.{too_large_either}
@@ -116,3 +123,51 @@ module _ {N : Type 0} {source : Place} {ordinal : ℕ} {old mid next new : Store
     own = own_open;
     reaches = reaches;
   }
+
+-- what may be written may be written once the ends were
+pub may_write_after : {N : Type 0} {source target : Place} {ends : Ends} {mid after : StoreState N} (own : Place) → WritesEnds source target ends mid after → MayWrite mid own → MayWrite after own
+may_write_after {N} {source} {target} {ends} {mid} {after} own wrote may = elim may [
+  | inl reserved ↦ inl (subst (λ (shape : Shape). IsReserved shape own.block) (sym wrote.stays.shape) reserved)
+  | inr more ↦ elim more [
+    | inl before ↦ inr (inl (subst (λ (w : Contents). IsSome (words_at w own)) (sym wrote.writes) (cases (option_map vertex_words ends.target) before)))
+    | inr some ↦ inr (inr (subst (λ (r : Contents). content_of r own ≢ []) (sym wrote.reads) some))
+  ]
+]
+  where
+    still_some : (writes : Contents) (other : Place) (words : List ℕ) → IsSome (words_at writes own) → IsSome (words_at (with_words writes other words) own)
+    still_some writes other words is =
+        subst IsSome (sym (words_at-with_words writes other words own)) (elim (eq_by_cmp place_cmp own other) as (λ b. IsSome (cond b (Some words) (words_at writes own))) [ true ↦ refl | false ↦ is ])
+
+    cases : (second : Option (List ℕ)) → IsSome (words_at mid.writes own) → IsSome (words_at (written source target (vertex_words ends.source) second mid.writes) own)
+    cases None is = still_some mid.writes source (vertex_words ends.source) is
+    cases (Some words) is = still_some (with_words mid.writes source (vertex_words ends.source)) target words (still_some mid.writes source (vertex_words ends.source) is)
+
+-- ends that aren't too large are written
+pub settled_small : {N : Type 0} {source target : Place} {wanted reply : Reply} {mid after : StoreState N} (made : Ends) → are_too_large made ≡ false → SettlesEnds source target wanted mid after (Made made) reply
+    → (reply ≡ wanted) × WritesEnds source target made mid after
+settled_small {source = source} {target = target} {wanted = wanted} {reply = reply} {mid = mid} {after = after} made small settled =
+    subst (λ b. MatchBool b ((reply ≡ TooLarge) × (after ≡ mid)) ((reply ≡ wanted) × WritesEnds source target made mid after)) small settled
+
+pub opened_is : {N : Type 0} {source : Place} {ordinal : ℕ} {old new : StoreState N} {answer : Option Opened} (opened : Opened) → answer ≡ Some opened → OpensEnds source ordinal old new answer → OpensSome source ordinal old new opened
+opened_is {source = source} {ordinal = ordinal} {old = old} {new = new} opened is found = subst (OpensEnds source ordinal old new) is found
+
+pub none_opened : {N : Type 0} {source : Place} {ordinal : ℕ} {old new : StoreState N} {answer : Option Opened} → answer ≡ None → OpensEnds source ordinal old new answer → OpensNone source ordinal old new
+none_opened {source = source} {ordinal = ordinal} {old = old} {new = new} is found = subst (OpensEnds source ordinal old new) is found
+
+module _ {N : Type 0} {source : Place} {ordinal : ℕ} {old mid : StoreState N} (after : StoreState N) (opened : Opened) (read : OpensSome source ordinal old mid opened) where
+  -- the edge's own object may be written, also once the ends were
+  pub own_still_block : after.shape ≡ mid.shape → OwnIsBlock opened.edge.form after.shape
+  own_still_block same = cases opened.edge.form read.own
+    where
+      cases : (form : EdgeForm) → MatchForm form (λ _. Unit {0}) (λ own. OwnIsOpen own source opened.edge.other_at old mid) → OwnIsBlock form after.shape
+      cases Plain _ = tt
+      cases (Labelled l) _ = tt
+      cases (Heavy own) is = subst (λ (shape : Shape). IsBlock shape own) (sym (same ∙ read.ends.source_found.looks.stays.shape)) is.block
+
+  pub own_may_still : {ends : Ends} → WritesEnds source opened.edge.other_at ends mid after → MatchForm opened.edge.form (λ _. Unit {0}) (MayWrite after)
+  own_may_still {ends} wrote = cases opened.edge.form read.own
+    where
+      cases : (form : EdgeForm) → MatchForm form (λ _. Unit {0}) (λ own. OwnIsOpen own source opened.edge.other_at old mid) → MatchForm form (λ _. Unit {0}) (MayWrite after)
+      cases Plain _ = tt
+      cases (Labelled l) _ = tt
+      cases (Heavy own) is = may_write_after own wrote is.may

@@ -1,6 +1,8 @@
-use Rattle.std.proofs.Common.{rules, inl, inr, sym}
+use Rattle.std.proofs.Common.{rules, inl, inr, subst, sym}
+use Rattle.rma_layout.specs.Placement.{IsBlock}
+use Rattle.rma_layout.specs.Shape.{Shape}
 use Rattle.object_store.specs.Works.{Nowhere}
-use Rattle.object_store.proofs.Works.{fell_wider, went_wider, went-then, went-fell}
+use Rattle.object_store.proofs.Works.{fell_wider, looks-then, went_wider, went-then, went-fell}
 use Rattle.held_objects.proofs.Changes.{spelled_part}
 use Rattle.held_objects.proofs.Knows.{still}
 use Rattle.edge_ops.specs.HeldEdges.{AtEdge}
@@ -40,11 +42,12 @@ returns-in_err-holder-clause-works g c =
 
 pub beside-requires-clause-object : goal.beside-requires-clause-object
 beside-requires-clause-object g c =
-    target_is_block c.in_ok-from.ensures.found c.requires.edge c.in-Some.edge (sym c.in-Some.ensures.found)
+    let looks = looks-then c.in_ok-from.ensures.found.looks (edge_looks c.in_ok-from.from.id c.in-Some.edge c.in_ok-holder.holder c.in_ok-holder.ensures.found) in
+    subst (λ (shape : Shape). IsBlock shape c.in-Some.edge.other_at) (sym looks.stays.shape) (target_is_block c.in_ok-from.ensures.found c.requires.edge c.in-Some.edge (sym c.in-Some.ensures.found))
 
 pub beside-requires-clause-vertex : goal.beside-requires-clause-vertex
 beside-requires-clause-vertex g c =
-    still (edge_looks _ _ _ c.in_ok-holder.ensures.found) (target_known c.in_ok-from.ensures.found c.requires.edge c.in-Some.edge (sym c.in-Some.ensures.found))
+    still (edge_looks c.in_ok-from.from.id c.in-Some.edge c.in_ok-holder.holder c.in_ok-holder.ensures.found) (target_known c.in_ok-from.ensures.found c.requires.edge c.in-Some.edge (sym c.in-Some.ensures.found))
 
 pub returns-in_err-ends-clause-works : goal.returns-in_err-ends-clause-works
 returns-in_err-ends-clause-works g c =
