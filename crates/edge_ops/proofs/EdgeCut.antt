@@ -1,43 +1,40 @@
 -- An edge is gone from both its ends, and its own object is empty.
-use Rattle.std.proofs.Common.{◌≡◌, ◌≢◌, ◌∙◌, ℕ, ◌+◌, ◌*◌, ◌≤◌, Bool, true, false, cond, ◌||◌, List, [], length, Option, Some, None, sum_by, refl, sym, ap, subst, ◌⊎◌, inl, inr, arith}
+use Rattle.std.proofs.Common.{◌≡◌, ◌∙◌, ℕ, ◌≤◌, Bool, true, false, cond, ◌||◌, [], length, Option, Some, None, refl, sym, ap, subst, ◌⊎◌, inl, inr, arith}
 use Rattle.std.specs.Option.{option_map, option_map_or, MatchOption}
 use Rattle.std.specs.Prelude.{is_none, is_some, not}
 use Rattle.std.specs.Ordering.{eq_by_cmp}
 use Rattle.std.proofs.lemmas.Bool.{or_parts}
 use Rattle.std.proofs.lemmas.Bool.Decides.{nat_tests}
-use Rattle.gdi_kinds.specs.declared.reply.Reply.{Reply}
 use Rattle.gdi_kinds.specs.declared.reply.Reply.TheVariants as reply
 use Rattle.rma_layout.specs.Placement.{Place, same_place}
-use Rattle.object_words.specs.Contents.{Contents, Agrees, IsByRisingObject, content_of, overlay, with_words}
-use Rattle.object_words.proofs.Places.{in_order-with_words, place_ties_itself}
+use Rattle.object_words.specs.Contents.{Contents, Agrees, IsByRisingObject, content_of, overlay}
+use Rattle.object_words.proofs.Places.{place_ties_itself}
 use Rattle.graph_model.specs.Graph.{is_heavy}
-use Rattle.graph_model.specs.Sizes.{is_too_large, words_of_value}
+use Rattle.graph_model.specs.Sizes.{is_too_large}
 use Rattle.graph_model.proofs.Sets.{length-filter-le}
 use Rattle.object_store.specs.State.{StoreState}
 use Rattle.object_store.specs.Sound.{StaysBegun}
 use Rattle.object_store.specs.Calls.{WritesObject}
-use Rattle.object_store.specs.Works.{Looks, Reaches}
-use Rattle.object_store.proofs.Working.{content_put, stays-same, stays-then}
+use Rattle.object_store.specs.Works.{Reaches}
+use Rattle.object_store.proofs.Working.{content_put, stays-same}
 use Rattle.holder_codec.specs.declared.edge_form.EdgeForm.{EdgeForm}
 use Rattle.holder_codec.specs.declared.edge_form.EdgeForm.TheVariants.{Plain, Labelled, Heavy}
 use Rattle.holder_codec.specs.declared.edge_record.EdgeRecord.{EdgeRecord}
-use Rattle.holder_codec.specs.declared.held_prop.HeldProp.{HeldProp}
 use Rattle.holder_codec.specs.declared.vertex_holder.VertexHolder.{VertexHolder}
 use Rattle.holder_codec.specs.Vertex.{vertex_words}
 use Rattle.holder_codec.proofs.Lengths.{length-vertex_words}
 use Rattle.held_objects.specs.Changes.{Holds, any}
-use Rattle.held_objects.specs.Knows.{Knows}
 use Rattle.held_objects.proofs.Knows.{knows_after, still}
-use Rattle.vertex_ops.specs.Vertices.{HeldVertex, HoldsVertex, holder_for}
+use Rattle.vertex_ops.specs.Vertices.{HeldVertex, HoldsVertex}
 use Rattle.edge_ops.specs.declared.ends.Ends.{Ends}
 use Rattle.edge_ops.specs.declared.opened.Opened.{Opened}
-use Rattle.edge_ops.specs.Cutting.{CutsEdge, IsCut, holder_without, lacks_edge, without, without_edge}
+use Rattle.edge_ops.specs.Cutting.{CutsEdge, IsCut, holder_without, lacks_edge, without}
 use Rattle.edge_ops.specs.Ends.{HeldEnds, HoldsEnds, as_ends, ends_after}
-use Rattle.edge_ops.specs.Ending.{AreHolders, SettlesEnds, WritesEnds, are_too_large, ends_made}
-use Rattle.edge_ops.specs.HeldEdges.{Footprint, HeldEdge, HeldOut, HoldsOut, IsBeyond, KnowsOut, has_edge, in_key, out_key}
+use Rattle.edge_ops.specs.Ending.{AreHolders, WritesEnds, are_too_large, ends_made}
+use Rattle.edge_ops.specs.HeldEdges.{HeldEdge, HeldOut, HoldsOut, KnowsOut, in_key, out_key}
 use Rattle.edge_ops.specs.Opening.{ClearsOwn, IsAtRecord, MatchForm, OpensNone, OpensSome}
 use Rattle.edge_ops.specs.Records.{Key, key_of, key_cmp, record_for, without_record}
-use Rattle.edge_ops.proofs.EdgesFound.{IsOfRecord, edge_there, footprint_is, light_alone, none_there, own_held, source_known}
+use Rattle.edge_ops.proofs.EdgesFound.{IsOfRecord, edge_there, footprint_is, light_alone, none_there, out_any, own_held, source_known}
 use Rattle.edge_ops.proofs.EndsChanged.{ends_changed, ends_stay}
 use Rattle.edge_ops.proofs.EndsWritten.{same_itself}
 use Rattle.edge_ops.proofs.Finding.{found_is}
@@ -94,7 +91,8 @@ module _ {N : Type 0} {source : Place} {ordinal : ℕ} {old mid : StoreState N} 
     cut = λ store held agrees has. subst (λ (o : Option HeldEdge). MatchOption o (Unit {0}) (IsCut source ordinal (overlay store mid.writes) held.source)) (sym (none_there opened.found store held agrees has opened.none)) tt;
     footprint = λ store held agrees has. record { reads = λ place. or_beyond (opened.reaches.reads place); writes = λ place. or_beyond (opened.reaches.writes place) };
     unchanged = λ _. opened.found.looks;
-    known =
+    known = still opened.found.looks known;
+    gone =
         knows_after opened.found.looks.stays ordered (λ store may agrees.
         let is = known.always store may in
         subst (λ (writes : Contents). Holds (HoldsOut old.shape source ordinal) lacks_edge old.shape (overlay store writes)) (sym opened.found.looks.writes)
@@ -184,7 +182,8 @@ module _ {N : Type 0} {source : Place} {ordinal : ℕ} {old mid : StoreState N} 
             subst (λ (o : Option HeldEdge). MatchOption o (Unit {0}) (IsCut source ordinal (overlay store new.writes) held.source)) (sym (e store held (agreed store agrees) has).is) (is_cut store held (agreed store agrees) has);
         footprint = λ store held agrees has. footprint_is (e store held (agreed store agrees) has) reaches;
         unchanged = λ other. absurd (other refl);
-        known = out_known;
+        known = out_any out_known;
+        gone = out_known;
         source_known = source_known out_known;
       }
         where

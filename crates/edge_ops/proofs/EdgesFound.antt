@@ -1,5 +1,5 @@
 -- What the record at the source of an edge, and the object of a heavy edge, tell of the edge.
-use Rattle.std.proofs.Common.{◌≡◌, ◌≢◌, ◌∙◌, ℕ, ◌^◌, ◌<◌, Bool, true, false, cond, eqb, eq-eqb, ◌||◌, List, [], ◌∷◌, length, Option, Some, None, refl, sym, ap, subst, ◌⊎◌, inl, inr, arith}
+use Rattle.std.proofs.Common.{◌≡◌, ◌∙◌, ℕ, ◌^◌, ◌<◌, Bool, true, false, cond, eqb, eq-eqb, ◌||◌, List, [], ◌∷◌, length, Option, Some, None, refl, sym, ap, subst, ◌⊎◌, inl, inr, arith}
 use Rattle.std.specs.Option.{option_map, option_map_or, MatchOption}
 use Rattle.std.specs.Prelude.{IsTrue, nat_lt}
 use Rattle.std.specs.List.{AllByRecursion}
@@ -8,7 +8,7 @@ use Rattle.std.proofs.lemmas.Bool.Decides.{nat_tests}
 use Rattle.rma_layout.specs.Shape.{Shape}
 use Rattle.rma_layout.specs.Placement.{Place, IsBlock}
 use Rattle.object_words.specs.Contents.{Contents, Agrees, IsByRisingObject, content_of, overlay}
-use Rattle.graph_model.specs.Graph.{PropType, Props, Edge, is_heavy}
+use Rattle.graph_model.specs.Graph.{PropType, Props, is_heavy}
 use Rattle.graph_model.proofs.Entries.{same_value, nothing}
 use Rattle.object_store.specs.State.{StoreState, committed}
 use Rattle.object_store.specs.Works.{Looks, Reaches}
@@ -24,7 +24,6 @@ use Rattle.holder_codec.specs.Order.{is_rising}
 use Rattle.holder_codec.specs.Edges.{RecordFits}
 use Rattle.holder_codec.specs.EdgeObject.{IsEdgeHolder, edge_object_words}
 use Rattle.holder_codec.specs.Holders.{held_props}
-use Rattle.holder_codec.specs.Knowing.{MayBeAt}
 use Rattle.holder_codec.specs.Represents.{light_form}
 use Rattle.holder_codec.specs.Vertex.{IsVertexHolder, LabelFits, vertex_words}
 use Rattle.holder_codec.proofs.EdgeObjectLaws.{edge_same}
@@ -34,7 +33,7 @@ use Rattle.held_objects.specs.Knows.{Knows}
 use Rattle.held_objects.proofs.Knows.{before, knows_after, still}
 use Rattle.vertex_ops.specs.Vertices.{HoldsVertex, KnowsVertex}
 use Rattle.edge_ops.specs.Records.{record_for}
-use Rattle.edge_ops.specs.HeldEdges.{AtEdge, Footprint, HeldEdge, HeldOut, HoldsEdge, HoldsOut, HoldsOwn, IsBeyond, KnowsOut, MayBeBeyond, edge_holder_for, form_of_held, is_edge_to, out_key, record_at_source}
+use Rattle.edge_ops.specs.HeldEdges.{AtEdge, Footprint, HeldEdge, HeldOut, HoldsEdge, HoldsOut, HoldsOwn, IsBeyond, KnowsOut, edge_holder_for, form_of_held, is_edge_to, out_key, record_at_source}
 use Rattle.edge_ops.specs.Loading.{LoadsEdge, edge_found}
 use Rattle.edge_ops.specs.Opening.{FindsEdge, IsAtRecord, IsOwnSpelled, MatchForm, OwnIsBlock, light_holder}
 use Rattle.edge_ops.proofs.Finding.{found_is}
@@ -104,6 +103,14 @@ edge_looks {N} {mid} {new} id edge got found = cases edge.form found
     cases Plain is = same is.1
     cases (Labelled l) is = same is.1
     cases (Heavy at) is = is.looks
+
+pub out_any : {N : Type 0} {source : Place} {ordinal : ℕ} {passes : HeldOut → Bool} {state : StoreState N} → KnowsOut source ordinal passes state → KnowsOut source ordinal any state
+out_any known = record {
+  always = λ store may.
+      let is = known.always store may in
+      record { part = is.part; has = is.has; passed = refl };
+  ordered = known.ordered;
+}
 
 pub source_known : {N : Type 0} {source : Place} {ordinal : ℕ} {passes : HeldOut → Bool} {state : StoreState N} → KnowsOut source ordinal passes state → KnowsVertex source any state
 source_known known = record {
@@ -247,6 +254,7 @@ module _ {N : Type 0} {source : Place} {ordinal : ℕ} {old mid : StoreState N} 
       found = λ store held agrees has. sym (ap (option_map (edge_found held ordinal)) (none_there store held agrees has none));
       footprint = λ store held agrees has. record { reads = λ place. or_beyond (reaches.reads place); writes = λ place. or_beyond (reaches.writes place) };
       known = still found.looks known;
+      source_known = still found.looks (source_known known);
       there = tt;
       kept = λ passes. still found.looks;
     }
@@ -270,7 +278,7 @@ module _ {N : Type 0} {source : Place} {ordinal : ℕ} {old mid : StoreState N} 
         got_is =
             let id_is : from.id ≡ held.source.id = ap (λ (h : VertexHolder). h.id) (found_is found store held.source agrees has.at_source) in
             let finds_it : FindsEdge held.source.id (record_at_source ordinal e.one) mid new got =
-                subst (λ (id : ℕ). FindsEdge id (record_at_source ordinal e.one) mid new got) id_is (subst (λ (r : EdgeRecord). FindsEdge from.id r mid new got) (sym e.of) finds) in
+            subst (λ (id : ℕ). FindsEdge id (record_at_source ordinal e.one) mid new got) id_is (subst (λ (r : EdgeRecord). FindsEdge from.id r mid new got) (sym e.of) finds) in
             edge_is held.source.types held.source.id ordinal e.one finds_it (λ at own heavy place.
             let spelled = (e.holds.heavy heavy).own in
             edge_same got (edge_holder_for held.source.types held.source.id ordinal e.one.edge) own.is spelled.holder
@@ -290,6 +298,7 @@ module _ {N : Type 0} {source : Place} {ordinal : ℕ} {old mid : StoreState N} 
         found = λ store held agrees has. found_here store held (agreed store agrees) agrees has;
         footprint = λ store held agrees has. footprint_is (edge_there store held (agreed store agrees) has edge there) reaches;
         known = still looks_on known;
+        source_known = still looks_on (source_known known);
         there =
             knows_after looks_on.stays (subst IsByRisingObject (sym looks_on.writes) found.in_order) (λ store may agrees.
             let is = known.always store may in

@@ -27,7 +27,7 @@ module _ {N : Type 0} {source target : Place} {old mid new : StoreState N} {ends
       → HoldsEnds source target (overlay store new.writes) (ends_after source target as_source as_target held)
   ends_changed store held agrees has =
       let alike = made_alike source target as_source as_target source_holder target_holder like_source like_target ends held found.are_of
-          (found_is found.source_found store held.source agrees has.at_source) (found_is found.target_found store held.target agrees has.at_target) in
+      (found_is found.source_found store held.source agrees has.at_source) (found_is found.target_found store held.target agrees has.at_target) in
       let orderly = orderly_both source target as_source as_target source_holder target_holder like_source like_target keeps_source keeps_target in
       ends_hold ordered (are_of_made source target source_holder target_holder ends found.are_of) holders small wrote (ends_after source target as_source as_target held) alike.0 alike.1
       (orderly source held.source has.at_source.fits) (orderly target held.target has.at_target.fits) store

@@ -20,7 +20,7 @@ use Rattle.held_objects.proofs.Changes.{may_write}
 use Rattle.vertex_ops.specs.Vertices.{HeldVertex, HoldsVertex, holder_for}
 use Rattle.vertex_ops.proofs.LabelSets.{some_words}
 use Rattle.edge_ops.specs.declared.ends.Ends.{Ends}
-use Rattle.edge_ops.specs.Ending.{AreHolders, AreOf, FindsBeside, FindsEnds, target_of}
+use Rattle.edge_ops.specs.Ending.{AreHolders, FindsBeside, FindsEnds}
 
 still_read : (reads later : Contents) (object : Place) (words : List ℕ) → words ≢ [] → ((ws : List ℕ) → words_at reads object ≡ Some ws → words_at later object ≡ Some ws)
     → content_of reads object ≡ words → content_of later object ≡ words

@@ -5,5 +5,6 @@ pub mod EdgesFound
 pub mod EndsWritten
 pub mod Opening
 pub mod EndsChanged
+pub mod EdgeMade
 pub mod NewEdge
 pub mod EdgeCut

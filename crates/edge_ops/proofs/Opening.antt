@@ -1,5 +1,5 @@
 -- The objects at an edge, once they are read.
-use Rattle.std.proofs.Common.{◌≡◌, ◌≢◌, ◌∙◌, ℕ, ◌≤◌, Bool, true, false, ◌||◌, List, [], length, Option, Some, None, refl, sym, ap, subst, cond, IsSome, ◌⊎◌, inl, inr, arith}
+use Rattle.std.proofs.Common.{◌≡◌, ◌≢◌, ◌∙◌, ℕ, ◌≤◌, Bool, true, false, ◌||◌, List, [], length, Option, Some, None, refl, sym, ap, subst, cond, IsSome, inl, inr, arith}
 use Rattle.std.specs.Bool.{MatchBool}
 use Rattle.std.specs.Option.{MatchOption, option_map}
 use Rattle.std.specs.Ordering.{eq_by_cmp}
@@ -8,13 +8,12 @@ use Rattle.gdi_kinds.specs.declared.reply.Reply.TheVariants.{TooLarge}
 use Rattle.std.proofs.lemmas.Bool.Decides.{nat_tests}
 use Rattle.rma_layout.specs.Placement.{Place, IsBlock, IsReserved}
 use Rattle.rma_layout.specs.Shape.{Shape}
-use Rattle.object_words.specs.Contents.{Contents, Agrees, content_of, overlay, place_cmp, with_words, words_at}
+use Rattle.object_words.specs.Contents.{Contents, content_of, overlay, place_cmp, with_words, words_at}
 use Rattle.object_words.proofs.Places.{words_at-with_words}
 use Rattle.graph_model.specs.Sizes.{is_too_large, most_words}
 use Rattle.object_store.specs.State.{StoreState, committed}
 use Rattle.object_store.specs.Calls.{MayWrite}
-use Rattle.object_store.specs.Works.{Looks, Reaches}
-use Rattle.object_store.proofs.Works.{looks-then}
+use Rattle.object_store.specs.Works.{Reaches}
 use Rattle.holder_codec.specs.declared.edge_form.EdgeForm.{EdgeForm}
 use Rattle.holder_codec.specs.declared.edge_form.EdgeForm.TheVariants.{Plain, Labelled, Heavy}
 use Rattle.holder_codec.specs.declared.edge_holder.EdgeHolder.{EdgeHolder}
@@ -91,10 +90,10 @@ module _ {N : Type 0} {source : Place} {ordinal : ℕ} {old mid next new : Store
   small : are_too_large ends ≡ false
   small =
       let at_source : length (vertex_words ends.source) ≤ most_words =
-          subst (λ (ws : List ℕ). length ws ≤ most_words) (both.source_found.words (committed new) both.source_found.stands.agrees) some_known.1.at_source.within in
+      subst (λ (ws : List ℕ). length ws ≤ most_words) (both.source_found.words (committed new) both.source_found.stands.agrees) some_known.1.at_source.within in
       let at_target : length (vertex_words (target_of ends)) ≤ most_words =
-          subst (λ (ws : List ℕ). length ws ≤ most_words) (both.target_found.words (committed new) both.target_found.stands.agrees)
-          (subst (λ (place : Place). length (content_of (overlay (committed new) old.writes) place) ≤ most_words) target_is e.holds.at_target.within) in
+      subst (λ (ws : List ℕ). length ws ≤ most_words) (both.target_found.words (committed new) both.target_found.stands.agrees)
+      (subst (λ (place : Place). length (content_of (overlay (committed new) old.writes) place) ≤ most_words) target_is e.holds.at_target.within) in
       too_large_either ends ∙ neither _ _ (taken (length (vertex_words ends.source)) at_source) (taken (length (vertex_words (target_of ends))) at_target)
 
   own_open : MatchForm edge.form (λ _. Unit {0}) (λ own. OwnIsOpen own source edge.other_at old new)

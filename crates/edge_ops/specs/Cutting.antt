@@ -1,5 +1,5 @@
 -- An edge is cut.
-use Rattle.std.specs.Prelude.{◌≡◌, ◌≢◌, ℕ, Bool, true, not, List, [], MatchOption, if◌then◌else◌}
+use Rattle.std.specs.Prelude.{◌≡◌, ◌≢◌, ℕ, Bool, true, not, [], MatchOption, if◌then◌else◌}
 use Rattle.gdi_kinds.specs.declared.reply.Reply.{Reply}
 use Rattle.gdi_kinds.specs.declared.reply.Reply.TheVariants as reply
 use Rattle.rma_layout.specs.Placement.{Place}
@@ -41,5 +41,7 @@ module _ {N : Type 0} where
         MatchOption held.found (Unit {0}) (IsCut source ordinal (overlay store new.writes) held.source))
     pub footprint : Wherever new.reads old.writes (HoldsOut old.shape source ordinal) (λ _ held. Footprint source held old new)
     pub unchanged : answered ≢ reply.Done → Looks old new
-    pub known : KnowsOut source ordinal lacks_edge new
+    pub known : KnowsOut source ordinal any new
+    -- there is no such edge any more
+    pub gone : KnowsOut source ordinal lacks_edge new
     pub source_known : KnowsVertex source any new

@@ -1,8 +1,8 @@
 pub mod Records
 pub mod Lines
+pub mod HeldEdges
 pub mod Ends
 pub mod Ending
-pub mod HeldEdges
 pub mod Loading
 pub mod Opening
 pub mod Cutting

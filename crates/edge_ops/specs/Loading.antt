@@ -6,6 +6,7 @@ use Rattle.object_store.specs.State.{StoreState}
 use Rattle.object_store.specs.Works.{Looks}
 use Rattle.holder_codec.specs.Knowing.{Wherever}
 use Rattle.held_objects.specs.Changes.{any}
+use Rattle.vertex_ops.specs.Vertices.{KnowsVertex}
 use Rattle.edge_ops.specs.declared.found_edge.FoundEdge.{FoundEdge}
 use Rattle.edge_ops.specs.HeldEdges.{HeldOut, HeldEdge, HoldsOut, KnowsOut, Footprint, edge_holder_for, is_edge_to}
 
@@ -21,6 +22,7 @@ module _ {N : Type 0} where
     pub found : Wherever new.reads old.writes (HoldsOut old.shape source ordinal) (λ _ held. answer ≡ option_map (edge_found held ordinal) held.found)
     pub footprint : Wherever new.reads old.writes (HoldsOut old.shape source ordinal) (λ _ held. Footprint source held old new)
     pub known : KnowsOut source ordinal any new
+    pub source_known : KnowsVertex source any new
     -- an edge that was found is there
     pub there : MatchOption answer (Unit {0}) (λ one. KnowsOut source ordinal (is_edge_to one.holder.source one.holder.target) new)
     pub kept : (passes : HeldOut → Bool) → KnowsOut source ordinal passes old → KnowsOut source ordinal passes new

@@ -1,8 +1,6 @@
-use Rattle.std.proofs.Common.{rules, ◌≡◌, refl, subst}
-use Rattle.object_store.specs.Works.{Nowhere}
-use Rattle.object_store.proofs.Works.{fell_wider, gave_up-fell, same_went, went_wider}
+use Rattle.std.proofs.Common.{subst}
 use Rattle.holder_codec.specs.declared.edge_form.EdgeForm.{EdgeForm}
-use Rattle.edge_ops.specs.Opening.{OwnIsBlock, OwnOf}
+use Rattle.edge_ops.specs.Opening.{OwnIsBlock}
 use Rattle.edge_ops.proofs.EdgesFound.{spelled_by_form}
 use Rattle.edge_ops.proofs.own_object.open_edge.Goals as goal
 

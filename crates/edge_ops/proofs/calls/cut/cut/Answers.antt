@@ -1,4 +1,4 @@
-use Rattle.std.proofs.Common.{rules, ◌≡◌, ◌∙◌, false, ap, inl, inr, sym, subst}
+use Rattle.std.proofs.Common.{rules, ◌∙◌, ap, inl, inr, sym, subst}
 use Rattle.gdi_kinds.specs.declared.reply.Reply.{Reply}
 use Rattle.rma_layout.specs.Placement.{IsBlock}
 use Rattle.rma_layout.specs.Shape.{Shape}
@@ -38,7 +38,7 @@ returns-in_err-reply-clause-works g c =
     let read = opened_is c.in-Some.opened c.in-Some.is c.in_ok-opened.ensures.opened in
     let reached = record_reached read.ends.source_found c.requires.edge c.in-Some.opened.edge read.record_is in
     let did = went-fell c.in_ok-opened.ensures.works.went (fell_wider {One = AtEdge c.args.source c.args.ordinal (g.S.Store.state c.args.store.now)} {Homes = Nowhere}
-    (λ place is. elim is [ | inl source ↦ inl source | inr target ↦ reached place (inr (inl target)) ]) (λ rank never. never) c.in_err-reply.ensures.works.fell) in
+    (λ place is. elim is [ inl source ↦ inl source | inr target ↦ reached place (inr (inl target)) ]) (λ rank never. never) c.in_err-reply.ensures.works.fell) in
     search rules
 
 pub clear_own-requires-clause-own : goal.clear_own-requires-clause-own
@@ -57,7 +57,7 @@ returns-in_err-clear_own-clause-works g c =
     let read = opened_is c.in-Some.opened c.in-Some.is c.in_ok-opened.ensures.opened in
     let reached = record_reached read.ends.source_found c.requires.edge c.in-Some.opened.edge read.record_is in
     let wrote = went_wider {Whole = AtEdge c.args.source c.args.ordinal (g.S.Store.state c.args.store.now)} {Homes = Nowhere}
-        (λ place is. elim is [ | inl source ↦ inl source | inr target ↦ reached place (inr (inl target)) ]) (λ rank never. never) c.in_ok-reply.ensures.works.went in
+    (λ place is. elim is [ inl source ↦ inl source | inr target ↦ reached place (inr (inl target)) ]) (λ rank never. never) c.in_ok-reply.ensures.works.went in
     let did = went-fell (went-then c.in_ok-opened.ensures.works.went wrote) (fell_wider {One = AtEdge c.args.source c.args.ordinal (g.S.Store.state c.args.store.now)} {Homes = Nowhere}
     (λ place is. reached place (inr (inr is))) (λ rank never. never) c.in_err-clear_own.ensures.works.fell) in
     search rules
@@ -67,7 +67,7 @@ returns-clause-works g c =
     let read = opened_is c.in-Some.opened c.in-Some.is c.in_ok-opened.ensures.opened in
     let reached = record_reached read.ends.source_found c.requires.edge c.in-Some.opened.edge read.record_is in
     let wrote = went_wider {Whole = AtEdge c.args.source c.args.ordinal (g.S.Store.state c.args.store.now)} {Homes = Nowhere}
-        (λ place is. elim is [ | inl source ↦ inl source | inr target ↦ reached place (inr (inl target)) ]) (λ rank never. never) c.in_ok-reply.ensures.works.went in
+    (λ place is. elim is [ inl source ↦ inl source | inr target ↦ reached place (inr (inl target)) ]) (λ rank never. never) c.in_ok-reply.ensures.works.went in
     let cleared = went_wider {Whole = AtEdge c.args.source c.args.ordinal (g.S.Store.state c.args.store.now)} {Homes = Nowhere} (λ place is. reached place (inr (inr is))) (λ rank never. never) c.in_ok-clear_own.ensures.works.went in
     record { went = went-then (went-then c.in_ok-opened.ensures.works.went wrote) cleared; fell = tt }
 
@@ -78,7 +78,7 @@ returns-clause-cut g c =
     let did = settled_small c.without_edge.result small c.in_ok-reply.ensures.settled in
     let holders = subst AreHolders c.without_edge.ensures.made c.without_edge.ensures.is in
     let wrote = subst (λ (ends : Ends). WritesEnds c.args.source c.in-Some.opened.edge.other_at ends (g.S.Store.state c.open.new.store) (g.S.Store.state c.settle_ends.new.store)) c.without_edge.ensures.made did.1 in
-    let first = went_wider {Whole = λ _ place. IsAtRecord c.args.source c.in-Some.opened.edge place} {Homes = Nowhere} (λ place is. elim is [ | inl source ↦ inl source | inr target ↦ inr (inl target) ]) (λ rank never. never) c.in_ok-reply.ensures.works.went in
+    let first = went_wider {Whole = λ _ place. IsAtRecord c.args.source c.in-Some.opened.edge place} {Homes = Nowhere} (λ place is. elim is [ inl source ↦ inl source | inr target ↦ inr (inl target) ]) (λ rank never. never) c.in_ok-reply.ensures.works.went in
     let second = went_wider {Whole = λ _ place. IsAtRecord c.args.source c.in-Some.opened.edge place} {Homes = Nowhere} (λ place is. inr (inr is)) (λ rank never. never) c.in_ok-clear_own.ensures.works.went in
     let reaches = reaches-then read.reaches (went-then first second).reaches in
     subst (λ (reply : Reply). CutsEdge c.args.source c.args.ordinal (g.S.Store.state c.args.store.now) (g.S.Store.state c.clear_own.new.store) reply) (sym did.0)

@@ -1,6 +1,4 @@
 use Rattle.std.proofs.Common.{rules, inl, inr, sym}
-use Rattle.rma_layout.specs.Shape.{Shape}
-use Rattle.rma_layout.specs.Placement.{Place}
 use Rattle.object_store.specs.Works.{Nowhere}
 use Rattle.object_store.proofs.Works.{fell_wider, went_wider, went-then, went-fell}
 use Rattle.held_objects.proofs.Changes.{spelled_part}
@@ -49,5 +47,5 @@ returns-clause-works g c =
 pub returns-clause-loaded : goal.returns-clause-loaded
 returns-clause-loaded g c =
     let went = went-then (went_wider {Whole = λ _ place. IsAtRecord c.args.source c.in-Some.edge place} {Homes = Nowhere} (λ place is. inl is) (λ rank never. never) c.in_ok-from.ensures.works.went)
-        (went_wider {Whole = λ _ place. IsAtRecord c.args.source c.in-Some.edge place} {Homes = Nowhere} (λ place is. inr (inr is)) (λ rank never. never) c.in_ok-holder.ensures.works.went) in
+    (went_wider {Whole = λ _ place. IsAtRecord c.args.source c.in-Some.edge place} {Homes = Nowhere} (λ place is. inr (inr is)) (λ rank never. never) c.in_ok-holder.ensures.works.went) in
     loads_some c.in_ok-from.ensures.found c.requires.edge c.in-Some.edge (sym c.in-Some.ensures.found) _ _ c.in_ok-holder.ensures.found went.reaches
