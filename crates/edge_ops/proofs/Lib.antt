@@ -8,3 +8,5 @@ pub mod EndsChanged
 pub mod EdgeMade
 pub mod NewEdge
 pub mod EdgeCut
+pub mod LinesOfGraph
+pub mod EdgesOfGraph

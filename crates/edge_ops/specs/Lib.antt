@@ -1,6 +1,7 @@
 pub mod Records
 pub mod Lines
 pub mod HeldEdges
+pub mod OfGraph
 pub mod Ends
 pub mod Ending
 pub mod Loading
