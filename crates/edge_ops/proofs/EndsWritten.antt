@@ -32,7 +32,7 @@ same_apart one other apart = cases (same_place one other) refl
         absurd (apart (λ i. record { rank = eqb-true one.rank other.rank parts.0 i; block = eqb-true one.block other.block parts.1 i }))
     cases false same = refl
 
-untied : (one other : Place) → one ≢ other → eq_by_cmp place_cmp one other ≡ false
+pub untied : (one other : Place) → one ≢ other → eq_by_cmp place_cmp one other ≡ false
 untied one other apart = cases (eq_by_cmp place_cmp one other) refl
   where
     cases : (tie : Bool) → eq_by_cmp place_cmp one other ≡ tie → tie ≡ false

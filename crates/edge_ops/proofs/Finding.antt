@@ -20,7 +20,7 @@ use Rattle.held_objects.proofs.Changes.{may_write}
 use Rattle.vertex_ops.specs.Vertices.{HeldVertex, HoldsVertex, holder_for}
 use Rattle.vertex_ops.proofs.LabelSets.{some_words}
 use Rattle.edge_ops.specs.declared.ends.Ends.{Ends}
-use Rattle.edge_ops.specs.Ending.{AreHolders, AreOf, FindsBeside, target_of}
+use Rattle.edge_ops.specs.Ending.{AreHolders, FindsBeside, FindsEnds}
 
 still_read : (reads later : Contents) (object : Place) (words : List ℕ) → words ≢ [] → ((ws : List ℕ) → words_at reads object ≡ Some ws → words_at later object ≡ Some ws)
     → content_of reads object ≡ words → content_of later object ≡ words
@@ -57,12 +57,6 @@ module _ {N : Type 0} {H : Type 0} {IsHolder : H → Type 0} {words_of : H → L
     words = λ contents agrees. ap (λ (w : Contents). content_of (overlay contents w) object) (sym looks.writes) ∙ found.words contents agrees;
     there = found.there;
   }
-
--- both ends are found
-pub record FindsEnds {N : Type 0} (source target : Place) (old new : StoreState N) (ends : Ends) : Type 0 where
-  pub are_of : AreOf source target ends
-  pub source_found : FindsHolder IsVertexHolder vertex_words source old new ends.source
-  pub target_found : FindsHolder IsVertexHolder vertex_words target old new (target_of ends)
 
 module _ {N : Type 0} {source target : Place} {old mid new : StoreState N} where
   pub ends_found : {from : VertexHolder} {ends : Ends} → FindsHolder IsVertexHolder vertex_words source old mid from → FindsBeside source target from mid new ends → FindsEnds source target old new ends

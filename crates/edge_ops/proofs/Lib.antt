@@ -1,5 +1,12 @@
 pub mod Keys
 pub mod RecordLists
 pub mod Finding
+pub mod EdgesFound
 pub mod EndsWritten
+pub mod Opening
+pub mod EndsChanged
+pub mod EdgeMade
 pub mod NewEdge
+pub mod EdgeCut
+pub mod LinesOfGraph
+pub mod EdgesOfGraph

@@ -1,6 +1,6 @@
 -- Records with one more, or another in the place of one.
 use Rattle.std.proofs.Common.{◌≡◌, ℕ, zero, suc, ◌^◌, ◌<◌, ◌≤◌, Bool, true, false, cond, List, [], ◌∷◌, length, slice_get, Some, None, Result, Ok, Err, refl, sym, ap, subst, ◌∙◌, arith}
-use Rattle.std.specs.Prelude.{IsTrue}
+use Rattle.std.specs.Prelude.{IsTrue, not}
 use Rattle.std.specs.List.{AllByRecursion, insert, remove}
 use Rattle.std.specs.Result.{MatchResult}
 use Rattle.std.specs.Ordering.{eq_by_cmp, is_eq, is_lt, ordering_reverse}
@@ -10,15 +10,15 @@ use Rattle.std.specs.FinMap.Entries.{by_order, below_all}
 use Rattle.std.specs.declared.cmp.Ordering.{Ordering}
 use Rattle.std.specs.declared.cmp.Ordering.TheVariants.{Less, Equal, Greater}
 use Rattle.std.proofs.lemmas.Bool.{and_parts}
-use Rattle.graph_model.proofs.Entries.{same_value, nothing}
+use Rattle.graph_model.proofs.Entries.{All-filter, same_value, nothing}
 use Rattle.holder_codec.specs.declared.edge_record.EdgeRecord.{EdgeRecord}
 use Rattle.holder_codec.specs.declared.vertex_holder.VertexHolder.{VertexHolder}
 use Rattle.holder_codec.specs.Edges.{RecordFits, is_record_before}
 use Rattle.holder_codec.specs.Order.{is_rising}
 use Rattle.holder_codec.specs.Vertex.{IsVertexHolder}
 use Rattle.rising_lists.specs.Rising.{by_key}
-use Rattle.rising_lists.proofs.Rising.{All-with_item, is_rising-with_item, sorted}
-use Rattle.edge_ops.specs.Records.{Key, key_of, key_cmp, record_for, with_record}
+use Rattle.rising_lists.proofs.Rising.{All-with_item, is_rising-where, is_rising-with_item, item_of-where, sorted}
+use Rattle.edge_ops.specs.Records.{Key, key_of, key_cmp, record_for, with_record, without_record}
 use Rattle.edge_ops.proofs.Keys.{key_total, key_same, before_is}
 
 -- ---- where a record stands
@@ -84,6 +84,54 @@ pub within_position : (es : List EdgeRecord) (key : Key) (r : Result ℕ ℕ) �
 within_position es key (Ok i) found = within_some es i found.0 found.1
 within_position es key (Err i) none = none.0
 
+-- ---- without a record
+
+-- records behind a key are not of it
+behind_kept : (key : Key) (es : List EdgeRecord) → below_all key_cmp key (by_key key_of es) ≡ true → without_record key es ≡ es
+behind_kept key [] below = refl
+behind_kept key (e ∷ es) below =
+    let parts = and_parts (is_lt (key_cmp key (key_of e))) (below_all key_cmp key (by_key key_of es)) below in
+    ap (λ o. cond (not (is_eq o)) (e ∷ without_record key es) (without_record key es)) (less_is (key_cmp key (key_of e)) parts.0) ∙ ap (λ (rest : List EdgeRecord). e ∷ rest) (behind_kept key es parts.1)
+
+pub record_removed : (key : Key) (es : List EdgeRecord) (i : ℕ) (found : EdgeRecord) → is_sorted key_cmp (by_key key_of es) ≡ true → slice_get es i ≡ Some found → key_of found ≡ key
+    → remove es i ≡ without_record key es
+record_removed key [] i found rise is same = nothing found is
+record_removed key (e ∷ es) zero found rise is same =
+    let here : key_of e ≡ key = ap key_of (same_value e found is) ∙ same in
+    let tie : key_cmp key (key_of e) ≡ Equal = ap (key_cmp key) here ∙ tied_itself key_total key in
+    let parts = and_parts (below_all key_cmp (key_of e) (by_key key_of es)) (is_sorted key_cmp (by_key key_of es)) rise in
+    sym (ap (λ o. cond (not (is_eq o)) (e ∷ without_record key es) (without_record key es)) tie ∙ behind_kept key es (subst (λ (k : Key). below_all key_cmp k (by_key key_of es) ≡ true) here parts.0))
+record_removed key (e ∷ es) (suc i) found rise is same =
+    let parts = and_parts (below_all key_cmp (key_of e) (by_key key_of es)) (is_sorted key_cmp (by_key key_of es)) rise in
+    let less : key_cmp (key_of e) key ≡ Less = ap (key_cmp (key_of e)) (sym same) ∙ less_at (key_of e) es i found parts.0 is in
+    ap (λ (rest : List EdgeRecord). e ∷ rest) (record_removed key es i found parts.1 is same)
+    ∙ sym (ap (λ o. cond (not (is_eq o)) (e ∷ without_record key es) (without_record key es)) (greater_turned (key_of e) key less))
+
+pub record_taken_out : (key : Key) (es : List EdgeRecord) (i : ℕ) (found : EdgeRecord) → is_rising is_record_before es ≡ true → slice_get es i ≡ Some found → record_for es key ≡ Some found
+    → remove es i ≡ without_record key es
+record_taken_out key es i found rising is there =
+    record_removed key es i found (sorted key_of key_total key_same is_record_before before_is es rising) is (record_key es key found there)
+
+-- where there is none of the key, nothing goes
+pub none_taken_out : (key : Key) (es : List EdgeRecord) → record_for es key ≡ None → without_record key es ≡ es
+none_taken_out key [] none = refl
+none_taken_out key (e ∷ es) none = cases (eq_by_cmp key_cmp key (key_of e)) refl none (none_taken_out key es)
+  where
+    cases : (tie : Bool) → eq_by_cmp key_cmp key (key_of e) ≡ tie → cond tie (Some e) (record_for es key) ≡ None → (record_for es key ≡ None → without_record key es ≡ es) → without_record key (e ∷ es) ≡ e ∷ es
+    cases true tie some _ = nothing e (sym some)
+    cases false tie rest behind =
+        ap (λ b. cond (not b) (e ∷ without_record key es) (without_record key es)) tie ∙ ap (λ (others : List EdgeRecord). e ∷ others) (behind rest)
+
+-- what is asked for after records of a key went
+pub record_for-without : (key : Key) (es : List EdgeRecord) (k : Key) → record_for (without_record key es) k ≡ cond (not (eq_by_cmp key_cmp key k)) (record_for es k) None
+record_for-without key es k = item_of-where key_of key_total key_same (λ other. not (eq_by_cmp key_cmp key other)) es k
+
+pub none_of_key : (key : Key) (es : List EdgeRecord) → record_for (without_record key es) key ≡ None
+none_of_key key es = record_for-without key es key ∙ ap (λ o. cond (not (is_eq o)) (record_for es key) None) (tied_itself key_total key)
+
+pub still_none : (key : Key) (es : List EdgeRecord) (k : Key) → record_for es k ≡ None → record_for (without_record key es) k ≡ None
+still_none key es k none = record_for-without key es k ∙ elim (not (eq_by_cmp key_cmp key k)) as (λ b. cond b (record_for es k) None ≡ None) [ true ↦ none | false ↦ refl ]
+
 -- ---- what has a spelling
 
 with : (holder : VertexHolder) (next : ℕ) (edges : List EdgeRecord) → next < 2 ^ 64 → AllByRecursion RecordFits edges → IsTrue (is_rising is_record_before edges) → IsVertexHolder holder
@@ -104,3 +152,9 @@ pub holder_with : (holder : VertexHolder) (next : ℕ) (edge : EdgeRecord) (edge
 holder_with holder next edge edges is small fits holds =
     with holder next edges small (subst (AllByRecursion RecordFits) (sym is) (All-with_item key_of key_cmp RecordFits edge holder.edges fits holds.edges))
     (subst (λ (es : List EdgeRecord). IsTrue (is_rising is_record_before es)) (sym is) (is_rising-with_item key_of key_total key_same is_record_before before_is edge holder.edges holds.edges_rise)) holds
+
+pub holder_taken_out : (holder : VertexHolder) (key : Key) (edges : List EdgeRecord) → edges ≡ without_record key holder.edges → IsVertexHolder holder → IsVertexHolder (record holder { edges = edges })
+holder_taken_out holder key edges is holds =
+    with holder holder.next edges holds.next (subst (AllByRecursion RecordFits) (sym is) (All-filter RecordFits RecordFits (λ e. not (eq_by_cmp key_cmp key (key_of e))) (λ _ _ fits. fits) holder.edges holds.edges))
+    (subst (λ (es : List EdgeRecord). IsTrue (is_rising is_record_before es)) (sym is)
+    (is_rising-where key_of key_total key_same is_record_before before_is (λ k. not (eq_by_cmp key_cmp key k)) holder.edges holds.edges_rise)) holds

@@ -79,6 +79,12 @@ module _ {N : Type 0} where
     pub source_is : ends.source ≡ from
     pub found : MatchOption ends.target ((source ≡ target) × (new ≡ old)) (λ to. (source ≢ target) × FindsHolder IsVertexHolder vertex_words target old new to)
 
+  -- both ends are found
+  pub record FindsEnds (source target : Place) (old new : StoreState N) (ends : Ends) : Type 0 where
+    pub are_of : AreOf source target ends
+    pub source_found : FindsHolder IsVertexHolder vertex_words source old new ends.source
+    pub target_found : FindsHolder IsVertexHolder vertex_words target old new (target_of ends)
+
   pub record WritesWords (source target : Place) (words : Spelling) (old new : StoreState N) : Type 0 where
     pub reads : new.reads ≡ old.reads
     pub writes : new.writes ≡ written source target words.source words.target old.writes

@@ -1,4 +1,9 @@
 pub mod Records
 pub mod Lines
+pub mod HeldEdges
+pub mod OfGraph
 pub mod Ends
 pub mod Ending
+pub mod Loading
+pub mod Opening
+pub mod Cutting

@@ -1,2 +1,4 @@
+pub mod cut;
 pub mod lines;
+pub mod load;
 pub mod make;

@@ -4,9 +4,18 @@
 mod beside;
 mod calls;
 mod ends;
+mod found_edge;
+mod laws;
 mod new_edge;
+mod opened;
+mod own_object;
 mod records;
 mod settle_ends;
+mod without;
 
+pub use calls::cut::cut;
 pub use calls::lines::lines;
+pub use calls::load::load;
 pub use calls::make::make;
+pub use found_edge::FoundEdge;
+pub use laws::{edges_are_those_of_the_graph, lines_are_those_of_the_graph};

@@ -1,10 +1,12 @@
-ghost use Rattle.std.specs.Prelude.{◌≡◌, ◌<◌, ◌≤◌, IfOk, IsTrue, MatchResult, Some, None, length, slice_get};
+ghost use Rattle.std.specs.Prelude.{◌≡◌, ◌<◌, ◌≤◌, IfOk, IsTrue, MatchOption, MatchResult, Some, None, length, slice_get};
 ghost use Rattle.std.specs.List.{insert};
 ghost use Rattle.holder_codec.specs.declared.edge_record.EdgeRecord.{EdgeRecord};
-ghost use Rattle.holder_codec.specs.Edges.{is_record_before};
+ghost use Rattle.holder_codec.specs.Edges.{RecordFits, is_record_before};
 ghost use Rattle.holder_codec.specs.Order.{is_rising};
+ghost use Rattle.holder_codec.specs.Vertex.{IsVertexHolder};
+ghost use Rattle.edge_ops.specs.HeldEdges.{out_key};
 ghost use Rattle.edge_ops.specs.Lines.{is_listed, line_of, lines_of};
-ghost use Rattle.edge_ops.specs.Records.{key_of, record_for, with_record};
+ghost use Rattle.edge_ops.specs.Records.{key_of, record_for, with_record, without_record};
 
 use gdi_kinds::{Dir, EdgeLine, EdgeList, NoMemory};
 use holder_codec::{EdgeRecord, EdgeRecords, VertexHolder};
@@ -46,6 +48,19 @@ fn line_of(id: u64, edge: &EdgeRecord) -> EdgeLine
     }
 }
 
+/// The record of an edge from a vertex, if there is one of this ordinal.
+pub(crate) fn record_out(holder: &VertexHolder, ordinal: u64) -> Option<EdgeRecord>
+    requires { IsVertexHolder holder.now }
+    ensures found { result ≡ record_for holder.now.edges (out_key ordinal) }
+    ensures fits { MatchOption result (Unit {0}) RecordFits }
+{
+    let edges = holder.edges.as_slice();
+    match position_of(edges, (0, (0, ordinal))) {
+        Ok(place) => Some(edges[place]),
+        Err(_) => None,
+    }
+}
+
 /// Records with another one, in its place. It replaces one of the same key.
 pub(crate) fn with_record(edges: EdgeRecords, edge: EdgeRecord) -> Result<EdgeRecords, NoMemory>
     requires { IsTrue (is_rising is_record_before edges) }
@@ -63,6 +78,22 @@ pub(crate) fn with_record(edges: EdgeRecords, edge: EdgeRecord) -> Result<EdgeRe
             edges.insert(place, edge)?;
             Ok(EdgeRecords::from_vec(edges))
         }
+    }
+}
+
+/// Records without that of a key.
+pub(crate) fn without_record(edges: EdgeRecords, key: (u64, (u64, u64))) -> EdgeRecords
+    requires { IsTrue (is_rising is_record_before edges) }
+    ensures { result ≡ without_record key edges }
+{
+    let place = position_of(edges.as_slice(), key);
+    match place {
+        Ok(place) => {
+            let mut edges = edges.into_vec();
+            let _cut = edges.remove(place);
+            EdgeRecords::from_vec(edges)
+        }
+        Err(_) => edges,
     }
 }
 

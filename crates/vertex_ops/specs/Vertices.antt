@@ -129,3 +129,5 @@ module _ {N : Type 0} where
     pub held : (contents : Contents) (types : List PropType) → HoldsVertex object (overlay contents new.writes) (bare id types)
     pub known : KnowsVertex object any new
     pub single : (number : ℕ) → KnowsVertexWithSingle number object any new
+    -- what is known of other vertices stays known, since the object is none of theirs
+    pub others : (other : Place) (passes : HeldVertex → Bool) → KnowsVertex other passes old → KnowsVertex other passes new

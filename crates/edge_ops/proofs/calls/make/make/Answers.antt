@@ -4,7 +4,7 @@ use Rattle.object_store.specs.Works.{Nowhere}
 use Rattle.object_store.proofs.Works.{fell_wider, went_wider, went-then, went-fell, went-works}
 use Rattle.held_objects.proofs.Changes.{spelled_part}
 use Rattle.held_objects.proofs.Knows.{still}
-use Rattle.edge_ops.specs.Ends.{Either, labels_of}
+use Rattle.edge_ops.specs.Ends.{Either}
 use Rattle.edge_ops.proofs.Finding.{ends_found, fits_one_word, holders_found, may_write_found}
 use Rattle.edge_ops.proofs.NewEdge.{makes_ok}
 use Rattle.edge_ops.proofs.calls.make.make.Goals as goal
@@ -49,5 +49,5 @@ returns-clause-works g c =
 
 pub returns-clause-made : goal.returns-clause-made
 returns-clause-made g c =
-    makes_ok (ends_found c.in_ok-from.ensures.found c.in_ok-ends.ensures.beside) (labels_of c.args.label) c.args.undirected (g.S.Store.state c.settle_ends.new.store) c.in_ok-ends.ensures.beside.source_is c.settle_ends.result c.with_new_edge-made.result
-    c.with_new_edge-made.ensures.made c.with_new_edge-made.ensures.is c.settle_ends.ensures.settled c.requires.source_vertex c.requires.target_vertex
+    makes_ok (ends_found c.in_ok-from.ensures.found c.in_ok-ends.ensures.beside) c.args.label c.args.undirected (g.S.Store.state c.settle_ends.new.store) c.in_ok-ends.ensures.beside.source_is c.settle_ends.result c.with_new_edge-made.result
+    c.with_new_edge-made.ensures.made c.with_new_edge-made.ensures.is c.settle_ends.ensures.settled c.requires.source_vertex c.requires.target_vertex c.requires.target
