@@ -1,1 +1,2 @@
 pub mod OtherObjects
+pub mod Differing
