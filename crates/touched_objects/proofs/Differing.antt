@@ -18,7 +18,7 @@ pub record IsSameness {X : Type 0} (same : X → X → Bool) : Type 0 where
 
 module _ {X : Type 0} (same : X → X → Bool) (is : IsSameness same) where
   -- what those weigh that are the same as an item
-  pub weighed : (X → ℕ) → X → List X → ℕ
+  unfoldable pub weighed : (X → ℕ) → X → List X → ℕ
   weighed f t xs = sum_by (λ x. if_so (same t x) (f x)) xs
 
   abbrev others : X → List X → List X

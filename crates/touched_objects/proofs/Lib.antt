@@ -1,2 +1,3 @@
 pub mod OtherObjects
 pub mod Differing
+pub mod Standing
