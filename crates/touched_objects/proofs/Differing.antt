@@ -1,9 +1,8 @@
 -- Sums over two lists of which all but some items weigh the same.
-use Rattle.std.proofs.Common.{◌≡◌, ℕ, zero, suc, ◌+◌, ◌≤◌, ◌<◌, Bool, true, false, cond, not, ◌||◌, List, [], ◌∷◌, length, refl, sym, ap, ◌∙◌, arith}
+use Rattle.std.proofs.Common.{◌≡◌, ℕ, zero, suc, ◌+◌, ◌≤◌, Bool, true, false, cond, not, ◌||◌, List, [], ◌∷◌, length, refl, sym, ap, ◌∙◌, arith}
 use Rattle.std.specs.List.{sum_by, filter, list_any}
 use Rattle.std.proofs.lemmas.Bool.{or_parts}
 use Rattle.std.proofs.lemmas.List.Sums.{sum_by-cons}
-use Rattle.graph_model.proofs.Entries.{never}
 use Rattle.graph_model.proofs.Sets.{length-filter-le}
 
 -- a number where a test passes
@@ -97,11 +96,11 @@ module _ {X : Type 0} (same : X → X → Bool) (is : IsSameness same) where
     sums-differ [] xs ys apart alike = omega (arith, same_sums (length xs + length ys) xs ys (omega arith) (λ u. alike u refl))
     sums-differ (t ∷ ts) xs ys apart alike =
         let left : (u : X) → among ts u ≡ false → weighed f u (others t xs) ≡ weighed h u (others t ys) = λ u none.
-            weighed-others f t u xs
-            ∙ elim (same t u) as (λ b. same t u ≡ b → if_so (not b) (weighed f u xs) ≡ if_so (not b) (weighed h u ys)) [
-              | true ↦ λ _. refl
-              | false ↦ λ other. alike u (ap (λ b. b || among ts u) other ∙ none)
-            ] refl
-            ∙ sym (weighed-others h t u ys) in
+        weighed-others f t u xs
+        ∙ elim (same t u) as (λ b. same t u ≡ b → if_so (not b) (weighed f u xs) ≡ if_so (not b) (weighed h u ys)) [
+          | true ↦ λ _. refl
+          | false ↦ λ other. alike u (ap (λ b. b || among ts u) other ∙ none)
+        ] refl
+        ∙ sym (weighed-others h t u ys) in
         let later = sums-differ ts (others t xs) (others t ys) apart.1 left in
         omega (arith, later, split f t xs, split h t ys, sums-others f t ts xs apart.0, sums-others h t ts ys apart.0, sum_by-cons (λ u. weighed f u xs) t ts, sum_by-cons (λ u. weighed h u ys) t ts)

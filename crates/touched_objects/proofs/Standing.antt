@@ -1,7 +1,7 @@
 -- What an object weighs among those of a rank, and sums that differ by some objects.
-use Rattle.std.proofs.Common.{◌≡◌, ℕ, zero, suc, ◌+◌, ◌≤◌, ◌<◌, Bool, true, false, cond, not, ◌&&◌, ◌||◌, List, [], ◌∷◌, map, Option, Some, None, is_some, refl, sym, ap, subst, ◌∙◌, eqb, arith}
+use Rattle.std.proofs.Common.{◌≡◌, ℕ, zero, suc, ◌+◌, ◌≤◌, ◌<◌, Bool, true, false, cond, not, ◌&&◌, List, [], ◌∷◌, map, Some, None, is_some, refl, sym, ap, subst, ◌∙◌, eqb, arith}
 use Rattle.std.specs.Prelude.{◌==◌, nat_lt}
-use Rattle.std.specs.List.{sum_by, filter, list_any, range_with_len}
+use Rattle.std.specs.List.{sum_by, filter, range_with_len}
 use Rattle.std.specs.List.Sorted.{IsStrictlySortedBy}
 use Rattle.std.specs.Map.{keys_of}
 use Rattle.std.specs.Option.{option_map_or}
@@ -10,7 +10,7 @@ use Rattle.std.specs.declared.cmp.Ordering.{Ordering}
 use Rattle.std.specs.Cmp.{IsTotalOrder, nat_cmp_total, tied_itself}
 use Rattle.std.specs.FinMap.{IsAntisymmetric, nat_cmp-IsAntisymmetric}
 use Rattle.std.specs.FinMap.Entries.{find}
-use Rattle.std.proofs.lemmas.Bool.{and_parts, eqb-true, ltb-true, ltb-false, lt-ltb, le-ltb}
+use Rattle.std.proofs.lemmas.Bool.{and_parts, eqb-true, lt-ltb, le-ltb}
 use Rattle.std.proofs.lemmas.Bool.Decides.{nat_tests}
 use Rattle.std.proofs.lemmas.List.Sums.{sum_by-cons}
 use Rattle.rma_layout.specs.Shape.{Shape, reserved_blocks}
@@ -18,7 +18,7 @@ use Rattle.rma_layout.specs.Placement.{home_of}
 use Rattle.graph_model.specs.Maps.{Map, keys}
 use Rattle.graph_model.specs.Graph.{Graph, Vertex, Edge, EdgeKey, edge_cmp, vertex_at, is_vertex, edge_at, is_heavy, is_heavy_at}
 use Rattle.graph_model.specs.Sizes.{blocks_of_words}
-use Rattle.graph_model.specs.Capacity.{Object, is_object, objects_on, blocks_of_object, blocks_used_on}
+use Rattle.graph_model.specs.Capacity.{Object, objects_on, blocks_of_object}
 use Rattle.graph_model.specs.Capacity.Object.{Reserved, OfVertex, OfHeavyEdge}
 use Rattle.graph_model.proofs.Entries.{never, edge_cmp_total, edge_cmp_same}
 use Rattle.graph_model.proofs.Sets.{is_eq-nat_cmp}
@@ -26,9 +26,9 @@ use Rattle.graph_model.proofs.Sums.{sum_by-map, sum_by-none, sum_by-same}
 use Rattle.graph_model.proofs.ObjectsMade.{vertices_on, heavy_on, edge_object, sum-objects}
 use Rattle.edge_index.proofs.EdgeMaps.{is_at-named}
 use Rattle.graph_undo.specs.Undo.{IsInOrder}
-use Rattle.graph_undo.proofs.PutBack.{weight, sum-out}
+use Rattle.graph_undo.proofs.PutBack.{sum-out}
 use Rattle.touched_objects.specs.Touched.{Spot, is_same_spot, is_touched, IsSameAt}
-use Rattle.touched_objects.specs.Weights.{stands_on, weight_on, weight_of, AreApart, SumsDifferByThese, UsedDiffersByTouched}
+use Rattle.touched_objects.specs.Weights.{weight_on, weight_of, AreApart, SumsDifferByThese, UsedDiffersByTouched}
 use Rattle.touched_objects.proofs.Differing.{if_so, IsSameness, weighed, Apart, sums-differ}
 
 eqb-turned : (a b : ℕ) → eqb a b ≡ eqb b a
@@ -202,14 +202,29 @@ module _ (shape : Shape) (g : Graph) (rank : ℕ) (w : Object → ℕ) (order : 
 
   object_weighs : (u : Spot) → sum_by (counts u) (objects_on shape g rank) ≡ weight_on shape g rank w u
   object_weighs (r, Reserved block) =
-      omega (arith, sum-objects shape g rank (counts (r, Reserved block)), reserved_weighs r block,
-        sum_by-none (λ (id : ℕ). 0) (λ id. refl) (keys (vertices_on shape g rank)), sum_by-none (λ (key : EdgeKey). 0) (λ key. refl) (keys (heavy_on shape g rank)))
+      omega (
+        arith,
+        sum-objects shape g rank (counts (r, Reserved block)),
+        reserved_weighs r block,
+        sum_by-none (λ (id : ℕ). 0) (λ id. refl) (keys (vertices_on shape g rank)),
+        sum_by-none (λ (key : EdgeKey). 0) (λ key. refl) (keys (heavy_on shape g rank)),
+      )
   object_weighs (r, OfVertex id) =
-      omega (arith, sum-objects shape g rank (counts (r, OfVertex id)), vertex_weighs id,
-        sum_by-none (λ (b : ℕ). 0) (λ b. refl) (range_with_len 0 (reserved_blocks shape)), sum_by-none (λ (key : EdgeKey). 0) (λ key. refl) (keys (heavy_on shape g rank)))
+      omega (
+        arith,
+        sum-objects shape g rank (counts (r, OfVertex id)),
+        vertex_weighs id,
+        sum_by-none (λ (b : ℕ). 0) (λ b. refl) (range_with_len 0 (reserved_blocks shape)),
+        sum_by-none (λ (key : EdgeKey). 0) (λ key. refl) (keys (heavy_on shape g rank)),
+      )
   object_weighs (r, OfHeavyEdge source ordinal) =
-      omega (arith, sum-objects shape g rank (counts (r, OfHeavyEdge source ordinal)), edge_weighs source ordinal,
-        sum_by-none (λ (b : ℕ). 0) (λ b. refl) (range_with_len 0 (reserved_blocks shape)), sum_by-none (λ (id : ℕ). 0) (λ id. refl) (keys (vertices_on shape g rank)))
+      omega (
+        arith,
+        sum-objects shape g rank (counts (r, OfHeavyEdge source ordinal)),
+        edge_weighs source ordinal,
+        sum_by-none (λ (b : ℕ). 0) (λ b. refl) (range_with_len 0 (reserved_blocks shape)),
+        sum_by-none (λ (id : ℕ). 0) (λ id. refl) (keys (vertices_on shape g rank)),
+      )
 
 -- ---- the sums
 
@@ -233,11 +248,15 @@ module _ (shape : Shape) (rank : ℕ) where
       → sum_by old (objects_on shape g rank) + weight_of shape h rank new spots ≡ sum_by new (objects_on shape h rank) + weight_of shape g rank old spots
   sums g h old new spots in_order still apart alike =
       let both = sums-differ is_same_spot sameness (at_object old) (at_object new) spots (spots_on g) (spots_on h) (apart-of (at_object old) (at_object new) spots apart)
-          (λ u none. spot_weighs g old in_order u ∙ alike u none ∙ sym (spot_weighs h new still u)) in
-      omega (arith, both,
-        sum_by-map (at_object old) (λ object. (rank, object)) (objects_on shape g rank), sum_by-map (at_object new) (λ object. (rank, object)) (objects_on shape h rank),
+      (λ u none. spot_weighs g old in_order u ∙ alike u none ∙ sym (spot_weighs h new still u)) in
+      omega (
+        arith,
+        both,
+        sum_by-map (at_object old) (λ object. (rank, object)) (objects_on shape g rank),
+        sum_by-map (at_object new) (λ object. (rank, object)) (objects_on shape h rank),
         sum_by-same (λ u. weighed is_same_spot sameness (at_object new) u (spots_on h)) (weight_on shape h rank new) (spot_weighs h new still) spots,
-        sum_by-same (λ u. weighed is_same_spot sameness (at_object old) u (spots_on g)) (weight_on shape g rank old) (spot_weighs g old in_order) spots)
+        sum_by-same (λ u. weighed is_same_spot sameness (at_object old) u (spots_on g)) (weight_on shape g rank old) (spot_weighs g old in_order) spots,
+      )
 
 pub sums_differ_by_these : SumsDifferByThese
 sums_differ_by_these shape rank g h old new spots in_order still apart alike = sums shape rank g h old new spots in_order still apart alike

@@ -3,10 +3,10 @@ use Rattle.std.specs.Prelude.{◌≡◌, ℕ, ◌+◌, Bool, false, ◌&&◌, Li
 use Rattle.rma_layout.specs.Shape.{Shape, reserved_blocks}
 use Rattle.rma_layout.specs.Placement.{home_of}
 use Rattle.graph_model.specs.Graph.{Graph, is_vertex, is_heavy_at}
-use Rattle.graph_model.specs.Capacity.{Object, is_object, objects_on, blocks_of_object, blocks_used_on}
+use Rattle.graph_model.specs.Capacity.{Object, objects_on, blocks_of_object, blocks_used_on}
 use Rattle.graph_model.specs.Capacity.Object.{Reserved, OfVertex, OfHeavyEdge}
 use Rattle.graph_undo.specs.Undo.{IsInOrder}
-use Rattle.touched_objects.specs.Touched.{Spot, is_touched, is_same_spot, IsSameAt}
+use Rattle.touched_objects.specs.Touched.{Spot, is_touched, IsSameAt}
 
 -- whether an object of a graph is one of the rank's
 abbrev pub stands_on : Shape → Graph → ℕ → Spot → Bool
