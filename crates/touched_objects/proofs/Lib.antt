@@ -1,1 +1,4 @@
 pub mod OtherObjects
+pub mod Differing
+pub mod Standing
+pub mod NeededBlocks

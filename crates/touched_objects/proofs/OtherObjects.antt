@@ -25,7 +25,7 @@ use Rattle.touched_objects.specs.Touched.{Spot, vertex_spot, reserved_spot, labe
 
 -- ---- among lists
 
-not_touched-append : (xs ys : List Spot) (spot : Spot) → is_touched (xs ++ ys) spot ≡ false → (is_touched xs spot ≡ false) × (is_touched ys spot ≡ false)
+pub not_touched-append : (xs ys : List Spot) (spot : Spot) → is_touched (xs ++ ys) spot ≡ false → (is_touched xs spot ≡ false) × (is_touched ys spot ≡ false)
 not_touched-append [] ys spot none = (refl, none)
 not_touched-append (x ∷ xs) ys spot none =
     let parts = or_parts (is_same_spot x spot) (is_touched (xs ++ ys) spot) none in

@@ -1,1 +1,3 @@
 pub mod Touched
+pub mod Weights
+pub mod Needed

@@ -3,4 +3,4 @@
 
 mod law;
 
-pub use law::other_objects_stay;
+pub use law::{needed_by_touched, other_objects_stay, sums_differ_by_touched};
