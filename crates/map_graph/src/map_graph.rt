@@ -5,6 +5,7 @@ ghost use Rattle.graph_model.specs.Calls.{graph_after_call, reply_to};
 ghost use Rattle.graph_model.specs.Transactions.{graph_after_calls, graph_after_txn, replies_to, replies_to_calls};
 ghost use Rattle.map_graph.specs.Plain.{Answers, IsOnEdge, Stands};
 
+mod asked;
 mod edge_changes;
 mod edge_props;
 mod edge_tags;

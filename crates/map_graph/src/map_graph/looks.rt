@@ -42,11 +42,17 @@ impl MapGraph {
     pub(super) fn is_of_kind(&self, ty: u32, value: &Value) -> bool
         ensures { result ≡ same_kind (kind_of value.now) (kind_at self.now.graph ty) }
     {
-        let kind = match self.held_type(ty) {
+        is_of_kind(value, self.kind_of_type(ty))
+    }
+
+    /// The kind of a type. An unknown one counts as of integers.
+    pub(super) fn kind_of_type(&self, ty: u32) -> Kind
+        ensures { result ≡ kind_at self.now.graph ty }
+    {
+        match self.held_type(ty) {
             Some(held) => held.kind(),
             None => Kind::Int,
-        };
-        is_of_kind(value, kind)
+        }
     }
 
     /// Whether a property of a type may have more than one value.

@@ -101,11 +101,6 @@ impl MapGraph {
         self.remove_values(id, ty);
         Reply::Done
     }
-
-    // The allocator that `new` was given.
-    pub(super) fn alloc(&self) -> Global {
-        self.alloc
-    }
 }
 
 // The values of a marked type as a list, and else the one value that there is.
