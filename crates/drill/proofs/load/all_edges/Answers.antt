@@ -1,4 +1,4 @@
-use Rattle.std.proofs.Common.{◌≡◌, ◌∙◌, ◌+◌, ◌*◌, ap, sym, arith}
+use Rattle.std.proofs.Common.{◌≡◌, ◌+◌, ◌*◌, ap, arith}
 use Rattle.drill.specs.Draws.{state_after}
 use Rattle.drill.specs.Drill.{edge_call}
 use Rattle.drill.proofs.Growing.{map_more, first_drawn, drawn_on}

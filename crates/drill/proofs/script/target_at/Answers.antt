@@ -1,4 +1,4 @@
-use Rattle.std.proofs.Common.{◌≡◌, ◌∙◌, ◌+◌, ◌/◌, ap, sym, length, slice_get, Some, arith}
+use Rattle.std.proofs.Common.{◌∙◌, ◌+◌, ◌/◌, ap, sym, length, slice_get, arith}
 use Rattle.drill.specs.Drill.{target_of}
 use Rattle.drill.proofs.Growing.{at_number, how_many}
 use Rattle.drill.proofs.script.target_at.Goals as goal
