@@ -1,0 +1,13 @@
+//! Drills: a load and a script that are made from two numbers.
+#![tactic(auto)]
+
+mod draws;
+mod load;
+mod script;
+mod words;
+
+pub use load::drill_load;
+pub use script::drill_script;
+
+#[cfg(test)]
+mod tests;

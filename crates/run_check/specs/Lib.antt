@@ -1,0 +1,5 @@
+pub mod Places
+pub mod Fitting
+pub mod Numbering
+pub mod Ordering
+pub mod Laws
