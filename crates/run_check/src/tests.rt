@@ -1,3 +1,5 @@
+ghost use Rattle.std.specs.Prelude.{◌≡◌, IfOk};
+
 use crate::{Place, first_misfit, first_misnumbered, first_out_of_order};
 use gdi_kinds::{
     Call, CallList, Line, LineList, NoMemory, Outcome, Printed, Reply, ReplyList, Script, Section,
@@ -7,7 +9,9 @@ use std::alloc::Global;
 use std::process::Abort;
 use std::test::Fail;
 
-fn wrote(alloc: Global, section: u64, txn: u64, k: u64) -> Result<Line, NoMemory> {
+fn wrote(alloc: Global, section: u64, txn: u64, k: u64) -> Result<Line, NoMemory>
+    ensures { IfOk result (λ line. line.section ≡ section) }
+{
     let mut replies = ReplyList::new(alloc);
     replies.push(Reply::Done)?;
     Ok(Line {
