@@ -16,3 +16,4 @@ pub mod Standing
 pub mod PutBack
 pub mod Noting
 pub mod Fronts
+pub mod ObjectWords
