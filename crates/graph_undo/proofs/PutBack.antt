@@ -13,7 +13,7 @@ use Rattle.std.specs.FinMap.{IsAntisymmetric}
 use Rattle.std.specs.FinMap.Entries.{put, find, by_order}
 use Rattle.std.proofs.lemmas.Map.Keys.{sorted_head, sorted_tail}
 use Rattle.graph_model.specs.Maps.{Map}
-use Rattle.graph_model.proofs.Entries.{same_value, nothing}
+use Rattle.graph_model.proofs.Entries.{same_value, nothing, All-filter}
 
 module _ {K X : Type 0} (R : K → K → Ordering) (total : IsTotalOrder R) (same : IsAntisymmetric R) where
   abbrev Above : K → Map K X → Type 0
@@ -206,3 +206,17 @@ module _ {K X : Type 0} (R : K → K → Ordering) (total : IsTotalOrder R) (sam
             ap (find R q) (unnamed-cons k named agrees e es true (ap is_eq tied)) ∙ later ∙ sym (ap (λ b. cond b (Some e.1) (find R q es)) apart)
         | Greater ↦ λ is. ap (find R q) (unnamed-cons k named agrees e es false (ap is_eq is)) ∙ ap (λ o. cond (is_eq (R q e.0)) (Some e.1) o) later
       ] refl
+
+  -- each entry is found by its key
+  found-behind : (e : K × X) (es ds : Map K X) → Above e.0 ds → AllByRecursion (λ d. find R d.0 es ≡ Some d.1) ds → AllByRecursion (λ d. find R d.0 (e ∷ es) ≡ Some d.1) ds
+  found-behind e es [] above all = tt
+  found-behind e es (d ∷ ds) above all =
+      (ap (λ r. cond (is_eq r) (Some e.1) (find R d.0 es)) (total.antisymm d.0 e.0 ∙ ap ordering_reverse above.0) ∙ all.0, found-behind e es ds above.1 all.1)
+
+  each-found : (es : Map K X) → IsStrictlySortedBy R (keys_of es) → AllByRecursion (λ d. find R d.0 es ≡ Some d.1) es
+  each-found [] rises = tt
+  each-found (e ∷ es) rises =
+      (ap (λ r. cond (is_eq r) (Some e.1) (find R e.0 es)) (tied_itself total e.0), found-behind e es es (sorted_head R e.0 _ rises) (each-found es (sorted_tail R e.0 _ rises)))
+
+  pub find-entries : (p : K × X → Bool) (es : Map K X) → IsStrictlySortedBy R (keys_of es) → AllByRecursion (λ d. find R d.0 es ≡ Some d.1) (filter p es)
+  find-entries p es rises = All-filter _ _ p (λ _ _ is. is) es (each-found es rises)

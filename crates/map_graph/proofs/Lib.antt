@@ -12,3 +12,4 @@ pub mod Standing
 pub mod PutBack
 pub mod Noting
 pub mod Fronts
+pub mod ObjectWords

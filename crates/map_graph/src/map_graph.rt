@@ -17,6 +17,7 @@ mod noted;
 mod notes;
 mod props;
 mod restore;
+mod sizes;
 mod tags;
 mod vertices;
 

@@ -2,3 +2,4 @@ pub mod OtherObjects
 pub mod Differing
 pub mod Standing
 pub mod NeededBlocks
+pub mod Stayed

@@ -1,3 +1,4 @@
 pub mod Touched
 pub mod Weights
 pub mod Needed
+pub mod FromSteps

@@ -1,3 +1,4 @@
+ghost use Rattle.touched_objects.specs.FromSteps.{EachTouchesAll, StepsTellWhatStayed};
 ghost use Rattle.touched_objects.specs.Needed.{CallsLeadBack, NeededByTouched};
 ghost use Rattle.touched_objects.specs.Touched.{OtherObjectsStay};
 ghost use Rattle.touched_objects.specs.Weights.{SumsDifferByThese, UsedDiffersByTouched};
@@ -19,4 +20,11 @@ pub fn sums_differ_by_touched()
 pub fn needed_by_touched()
     ensures back { CallsLeadBack }
     ensures needed { NeededByTouched }
+{}
+
+/// The steps and the last graph alone tell which objects are touched on the way back, and which of the objects that are
+/// there at last were there all along.
+pub fn steps_tell_of_objects()
+    ensures touched { EachTouchesAll }
+    ensures stayed { StepsTellWhatStayed }
 {}

@@ -3,4 +3,6 @@
 
 mod law;
 
-pub use law::{needed_by_touched, other_objects_stay, sums_differ_by_touched};
+pub use law::{
+    needed_by_touched, other_objects_stay, steps_tell_of_objects, sums_differ_by_touched,
+};
