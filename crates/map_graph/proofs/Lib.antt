@@ -8,4 +8,8 @@ pub mod Ends
 pub mod Writes
 pub mod Places
 pub mod Slots
-pub mod Standing
+pub mod Shown
+pub mod Names
+pub mod Known
+pub mod Steps
+pub mod Fitting

@@ -3,7 +3,9 @@
 
 mod edge_lines;
 mod map_graph;
+mod marked;
 mod refused;
+mod shown;
 
 pub use map_graph::MapGraph;
 pub use refused::ModelRefused;
