@@ -1,5 +1,5 @@
 -- In a well-formed graph the labels and types of vertices and edges are known.
-use Rattle.std.proofs.Common.{◌≡◌, ℕ, zero, suc, ◌+◌, ◌<◌, List, [], ◌∷◌, length, Option, Some, None, sym, subst, arith}
+use Rattle.std.proofs.Common.{◌≡◌, ℕ, zero, suc, ◌+◌, ◌<◌, List, [], ◌∷◌, length, Option, Some, None, sym, ap, subst, ◌∙◌, arith}
 use Rattle.std.specs.Prelude.{IsSomeAnd}
 use Rattle.std.specs.List.{AllByRecursion}
 use Rattle.std.specs.Ordering.{nat_cmp}
@@ -34,3 +34,7 @@ pub edge_known : (g : Graph) (source ordinal : ℕ) (e : Edge) → IsWellFormed 
 edge_known g source ordinal e well there =
     let fits = All-find edge_cmp edge_cmp_same (λ entry. EdgeFits g entry.0 entry.1) (record { source = source; ordinal = ordinal }) e g.edges well.each_edge there in
     (fits.labels.1, types_below g e.props fits.props.1)
+
+pub edge-found : (g : Graph) (key : EdgeKey) (source ordinal : ℕ) (e : Edge) → source ≡ key.source → ordinal ≡ key.ordinal → Some e ≡ edge_at g source ordinal → edge_at g key.source key.ordinal ≡ Some e
+edge-found g key source ordinal e is_source is_ordinal there =
+    sym (there ∙ ap (λ s. edge_at g s ordinal) is_source ∙ ap (λ o. edge_at g key.source o) is_ordinal)

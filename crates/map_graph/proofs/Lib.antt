@@ -8,8 +8,10 @@ pub mod Ends
 pub mod Writes
 pub mod Places
 pub mod Slots
-pub mod Shown
+pub mod ItemByItem
 pub mod Names
 pub mod Known
 pub mod Steps
 pub mod Fitting
+pub mod Walking
+pub mod ListAnswers

@@ -1,5 +1,5 @@
 -- Walks by the steps of rows are those of the graph.
-use Rattle.std.proofs.Common.{◌≡◌, ℕ, zero, suc, ◌+◌, ◌<◌, ◌≤◌, Bool, true, false, ◌&&◌, ◌||◌, List, [], ◌∷◌, ◌++◌, length, map, Option, Some, None, is_some, if◌then◌else◌, inl, inr, refl, sym, ap, subst, ◌∙◌, eqb, arith, true≢false}
+use Rattle.std.proofs.Common.{◌≡◌, ℕ, zero, suc, ◌+◌, ◌-◌, ◌<◌, ◌≤◌, Bool, true, false, cond, ◌&&◌, ◌||◌, List, [], ◌∷◌, ◌++◌, length, map, Option, Some, None, is_some, if◌then◌else◌, inl, inr, refl, sym, ap, subst, ◌∙◌, eqb, arith, true≢false}
 use Rattle.std.specs.Prelude as prelude
 use Rattle.std.specs.Prelude.{◌==◌, IsSome, IsSomeAnd, nat_le, nat_lt, count_by}
 use Rattle.std.specs.List.{AllByRecursion, list_any, flat_map, filter}
@@ -7,6 +7,7 @@ use Rattle.std.specs.Option.{option_map_or, option_or}
 use Rattle.std.proofs.lemmas.Bool.{and_parts, and_from, or_cases, or_left, or_right, eqb-true, eq-eqb}
 use Rattle.std.proofs.lemmas.Bool.Decides.{nat_tests}
 use Rattle.std.proofs.lemmas.List.Folds.{list_any-append}
+use Rattle.std.proofs.lemmas.List.Sums.{sum_by-cons}
 use Rattle.graph_model.specs.Maps.{Map, keys, has, at}
 use Rattle.graph_model.specs.Graph.{Graph, Vertex, Edge, EdgeKey, vertex_at}
 use Rattle.graph_model.specs.WellFormed.{IsWellFormed}
@@ -42,7 +43,7 @@ or-assoc : (x y z : Bool) → ((x || y) || z) ≡ (x || (y || z))
 or-assoc true y z = refl
 or-assoc false y z = refl
 
-or-false : (x : Bool) → (x || false) ≡ x
+pub or-false : (x : Bool) → (x || false) ≡ x
 or-false true = refl
 or-false false = refl
 
@@ -136,17 +137,19 @@ filter-same p q (k ∷ ks) same =
     ap (λ b. if b then k ∷ filter p ks else filter p ks) (same k (or_left _ _ (eq-eqb k k refl)))
     ∙ ap (λ rest. if q k then k ∷ rest else rest) (filter-same p q ks (λ j there. same j (or_right _ _ there)))
 
+abbrev one_if : Bool → ℕ
+one_if b = cond b 1 0
+
 pub count-same : (p q : ℕ → Bool) (ks : List ℕ) → ((j : ℕ) → has ks j ≡ true → p j ≡ q j) → count_by p ks ≡ count_by q ks
 count-same p q [] same = refl
 count-same p q (k ∷ ks) same =
     let later = count-same p q ks (λ j there. same j (or_right _ _ there)) in
-    let sums = Rattle.std.proofs.lemmas.List.Sums.sum_by-cons in
-    let here : (if p k then 1 else 0) ≡ (if q k then 1 else 0) = ap (λ (b : Bool). if b then 1 else 0) (same k (or_left _ _ (eq-eqb k k refl))) in
-    omega (arith, later, here, sums (λ (v : ℕ). if p v then 1 else 0) k ks, sums (λ (v : ℕ). if q v then 1 else 0) k ks)
+    let here = ap one_if (same k (or_left _ _ (eq-eqb k k refl))) in
+    omega (arith, later, here, sum_by-cons (λ (v : ℕ). one_if (p v)) k ks, sum_by-cons (λ (v : ℕ). one_if (q v)) k ks)
 
 -- ---- levels up to a depth
 
-abbrev up_to : ℕ → Option ℕ → Bool
+abbrev pub up_to : ℕ → Option ℕ → Bool
 up_to depth o = option_map_or (λ level. nat_le level depth) o false
 
 module _ (p : ℕ → Bool) (depth : ℕ) where
@@ -183,3 +186,10 @@ some_vertices g id v there = by_list g.vertices there
     by_list : (vs : Map ℕ Vertex) → Some v ≡ at vs id → 1 ≤ length (keys vs)
     by_list [] none = nothing v (sym none)
     by_list (e ∷ es) some = omega arith
+
+pub some_bound : (depth count bound : ℕ) → 1 ≤ count → bound ≡ (if nat_lt depth count then depth + 1 else count) → 1 ≤ bound
+some_bound depth count bound some is =
+    elim (nat_lt depth count) as (λ b. bound ≡ (if b then depth + 1 else count) → 1 ≤ bound) [
+      | true ↦ λ one. omega (arith, one)
+      | false ↦ λ all. omega (arith, all, some)
+    ] is

@@ -20,7 +20,9 @@ impl MapGraph {
             return Ok(());
         };
         for atoms in test.as_slice() {
-            self.all_known(atoms)?;
+            if let Err(refusal) = self.all_known(atoms) {
+                return Err(refusal);
+            }
         }
         Ok(())
     }
@@ -30,7 +32,9 @@ impl MapGraph {
             (λ refusal. Err refusal ≡ names_known self.now.graph atoms.now) }
     {
         for atom in atoms.as_slice() {
-            self.name_known(atom)?;
+            if let Err(refusal) = self.name_known(atom) {
+                return Err(refusal);
+            }
         }
         Ok(())
     }
@@ -72,6 +76,12 @@ impl MapGraph {
         let Some(test) = test else {
             return false;
         };
+        self.some_list_has_wrong_kind(test)
+    }
+
+    fn some_list_has_wrong_kind(&self, test: &Test) -> bool
+        ensures { result ≡ list_any (list_any (is_of_wrong_kind self.now.graph)) test.now }
+    {
         test.as_slice()
             .iter()
             .any(|atoms| self.some_is_of_wrong_kind(atoms))

@@ -3,7 +3,7 @@ use Rattle.std.proofs.lemmas.List.{append-nil}
 use Rattle.std.specs.List.{AllByRecursion}
 use Rattle.std.specs.Option.{unwrap_or}
 use Rattle.graph_model.specs.Maps.{item_at}
-use Rattle.map_graph.proofs.Shown.{push_more, item-or}
+use Rattle.map_graph.proofs.ItemByItem.{push_more, item-or}
 use Rattle.map_graph.proofs.shown.names_of.Goals as goal
 
 pub at-requires : goal.at-requires

@@ -6,11 +6,6 @@ use Rattle.map_graph.specs.Plain.{Plain}
 use Rattle.map_graph.proofs.Steps.{steps_more, or-false, both_over, joining-over}
 use Rattle.map_graph.proofs.map_graph.MapGraph.joining_steps.Goals as goal
 
-pub loop-key-init : goal.loop-key-init
-loop-key-init c = λ i t.
-    ap (λ steps. leads steps i t || leads (flat_map both_over c.iter-key-items.result) i t) c.new-steps.ensures
-    ∙ ap (λ (p : Plain). leads (flat_map both_over p.graph.edges) i t) c.self.view_is
-
 pub loop-key-preserved : goal.loop-key-preserved
 loop-key-preserved c =
     steps_more both_over c.loop-key.steps c.add_both_ways.new.steps c.loop-key.key-iterator c.next.new.self c.args.self.now.graph.edges (c.in-Some.key.now, c.in-Some.edge.now) c.in-Some.ensures.steps
