@@ -7,7 +7,7 @@ ghost use Rattle.gdi_run.specs.BareScripts.{IsBareScript};
 ghost use Rattle.gdi_run.specs.Serial.{RunsOn, RunsOne, ends};
 
 use gdi_kinds::{Line, LineList, NoMemory, Outcome, Printed, ReplyList, Script, Section, Txn};
-use map_graph::{ModelRefused, MapGraph};
+use map_graph::{MapGraph, ModelRefused};
 use rma_layout::Geometry;
 use std::alloc::Global;
 

@@ -9,7 +9,7 @@ pub loop-atoms-preserved : goal.loop-atoms-preserved
 loop-atoms-preserved c =
     let split = split_at c.as_slice-atoms-items.result.now c.loop-atoms.atoms-index c.atoms-item.result c.loop-atoms-test.true c.atoms-item.is in
     let later : List Atom = flat_map (λ atoms. atoms) (drop (c.loop-atoms.atoms-index + 1) c.as_slice-atoms-items.result.now) in
-    sym (known_list c.args.self.now.graph c.atoms-item.result later c.in_default.ensures)
+    sym (known_list c.args.self.now.graph c.atoms-item.result later c.in_default-all_known.ensures)
     ∙ ap (λ (lists : List (List Atom)). names_known c.args.self.now.graph (flat_map (λ atoms. atoms) lists)) (sym split) ∙ c.loop-atoms.invariant
 
 pub returns-in-Err : goal.returns-in-Err
