@@ -29,10 +29,6 @@ pub are_bare : (cs : List Call) → AllByRecursion MayHold cs → AllByRecursion
 are_bare [] h = tt
 are_bare (c ∷ cs) h = (is_bare c h.0, are_bare cs h.1)
 
-pub txns_are_bare : (txns : List Txn) → AllByRecursion IsPlainTxn txns → AllByRecursion (λ txn. AllByRecursion IsBareCall txn.calls) txns
-txns_are_bare [] h = tt
-txns_are_bare (t ∷ ts) h = (are_bare t.calls h.0.calls, txns_are_bare ts h.1)
-
 -- calls that don't write are `has`, and leave the vertices
 reading_leaves : (shape : Shape) (ids : List ℕ) (cs : List Call) → AllByRecursion IsBareCall cs → list_any is_writing_call cs ≡ false → ids_after_calls shape ids cs ≡ ids
 reading_leaves shape ids [] bare reads = refl

@@ -1,14 +1,13 @@
 ghost use Rattle.std.specs.Prelude.{◌≡◌, ◌+◌, ◌<◌, ◌^◌, [], length, IfOk, OnOk};
-ghost use Rattle.std.specs.List.{AllByRecursion};
 ghost use Rattle.gdi_kinds.specs.Calls.{is_writing};
 ghost use Rattle.rma_layout.specs.Shape.{standard_shape};
-ghost use Rattle.graph_model.specs.Bare.{IsBareCall};
 ghost use Rattle.graph_model.specs.LegalRun.{IsLegalRun};
+ghost use Rattle.graph_model.specs.WellFormed.{IsWellFormed};
 ghost use Rattle.gdi_run.specs.BareScripts.{IsBareScript};
 ghost use Rattle.gdi_run.specs.Serial.{RunsOn, RunsOne, ends};
 
 use gdi_kinds::{Line, LineList, NoMemory, Outcome, Printed, ReplyList, Script, Section, Txn};
-use map_graph::{ModelRefused, MapGraph};
+use map_graph::{MapGraph, ModelRefused};
 use rma_layout::Geometry;
 use std::alloc::Global;
 
@@ -42,9 +41,10 @@ pub(crate) struct SerialRun {
 }
 
 fn run_section(run: &mut SerialRun, number: u64, section: &Section) -> Result<(), NoMemory>
-    requires bare { AllByRecursion (λ txn. AllByRecursion IsBareCall txn.calls) section.now }
+    requires well_formed { IsWellFormed run.old.graph.graph }
     requires room { run.old.writes + length section.now < 2 ^ 64 }
-    ensures { OnOk result (RunsOn run.old run.new number 1 section.now) }
+    ensures runs { OnOk result (RunsOn run.old run.new number 1 section.now) }
+    ensures well_formed { OnOk result (IsWellFormed run.new.graph.graph) }
 {
     for (index, txn) in section.as_slice().iter().enumerate() {
         run_txn(run, number, index as u64 + 1, txn)?;
@@ -53,9 +53,10 @@ fn run_section(run: &mut SerialRun, number: u64, section: &Section) -> Result<()
 }
 
 fn run_txn(run: &mut SerialRun, section: u64, number: u64, txn: &Txn) -> Result<(), NoMemory>
-    requires bare { AllByRecursion IsBareCall txn.now.calls }
+    requires well_formed { IsWellFormed run.old.graph.graph }
     requires room { run.old.writes + 1 < 2 ^ 64 }
-    ensures { OnOk result (RunsOne run.old run.new (record { section = section; number = number; txn = txn.now })) }
+    ensures runs { OnOk result (RunsOne run.old run.new (record { section = section; number = number; txn = txn.now })) }
+    ensures well_formed { OnOk result (IsWellFormed run.new.graph.graph) }
 {
     let replies = match run.graph.run(txn) {
         Ok(replies) => replies,

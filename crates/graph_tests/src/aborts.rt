@@ -1,6 +1,5 @@
-ghost use Rattle.std.specs.Prelude.{IfOk};
-ghost use Rattle.std.specs.List.{AllByRecursion};
-ghost use Rattle.map_graph.specs.Plain.{Stands};
+ghost use Rattle.std.specs.Prelude.{OnOk};
+ghost use Rattle.graph_model.specs.WellFormed.{IsWellFormed};
 
 use gdi_kinds::{Call, CallList, NoMemory, Reply, Txn};
 use map_graph::MapGraph;
@@ -10,19 +9,21 @@ use std::test::Fail;
 
 // Does a call, of whose answer a test's proof needs to know nothing.
 fn ask(graph: &mut MapGraph, call: &Call) -> Result<Reply, Fail>
-    requires { Stands call.now }
+    requires { IsWellFormed graph.old.graph }
+    ensures { OnOk result (IsWellFormed graph.new.graph) }
 {
     Ok(graph.apply(call)?)
 }
 
-fn has(graph: &mut MapGraph, id: u64) -> Result<bool, Fail> {
+fn has(graph: &mut MapGraph, id: u64) -> Result<bool, Fail>
+    requires { IsWellFormed graph.old.graph }
+    ensures { OnOk result (IsWellFormed graph.new.graph) }
+{
     Ok(matches!(ask(graph, &Call::Has { id })?, Reply::Yes))
 }
 
 // A transaction that makes vertex 3, or drops it.
-fn making(alloc: Global, makes: bool, aborts: bool) -> Result<Txn, NoMemory>
-    ensures { IfOk result (λ txn. AllByRecursion Stands txn.calls) }
-{
+fn making(alloc: Global, makes: bool, aborts: bool) -> Result<Txn, NoMemory> {
     let mut calls = CallList::new(alloc);
     if makes {
         calls.push(Call::Vertex { id: 3 })?;
@@ -38,7 +39,8 @@ fn making(alloc: Global, makes: bool, aborts: bool) -> Result<Txn, NoMemory>
 
 // Runs it, and says how many replies there are.
 fn run(graph: &mut MapGraph, txn: &Txn) -> Result<usize, Fail>
-    requires { AllByRecursion Stands txn.now.calls }
+    requires { IsWellFormed graph.old.graph }
+    ensures { OnOk result (IsWellFormed graph.new.graph) }
 {
     Ok(graph.run(txn)?.len())
 }

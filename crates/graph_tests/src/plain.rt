@@ -1,6 +1,3 @@
-ghost use Rattle.std.specs.Prelude.{IfOk};
-ghost use Rattle.map_graph.specs.Plain.{Stands};
-
 use gdi_kinds::{Call, Kind, Name, NoMemory, Reply, Value};
 use map_graph::MapGraph;
 use rma_layout::Geometry;
@@ -18,9 +15,7 @@ fn years() -> Result<Name, NoMemory> {
 }
 
 // What is asked at a step: vertices come and go, several of a bucket among them.
-fn call_at(step: u64) -> Result<Call, NoMemory>
-    ensures { IfOk result (λ call. Stands call) }
-{
+fn call_at(step: u64) -> Result<Call, NoMemory> {
     Ok(match step {
         0..=999 => Call::Vertex { id: step % 500 },
         1000..=1497 => Call::Vertex {
@@ -44,9 +39,7 @@ fn reply_at(step: u64) -> &'static str {
 }
 
 // The same of a label that twenty vertices get, and ten lose.
-fn labels_at(step: u64) -> Result<Call, NoMemory>
-    ensures { IfOk result (λ call. Stands call) }
-{
+fn labels_at(step: u64) -> Result<Call, NoMemory> {
     let label = person()?;
     Ok(match step {
         3500..=3599 => Call::NewLabel { name: label },
@@ -73,9 +66,7 @@ fn labels_told(step: u64) -> &'static str {
 }
 
 // And of a property of vertex 7 that may have many values.
-fn values_at(step: u64) -> Result<Call, NoMemory>
-    ensures { IfOk result (λ call. Stands call) }
-{
+fn values_at(step: u64) -> Result<Call, NoMemory> {
     let (id, prop) = (7, years()?);
     Ok(match step {
         3680..=3681 => Call::NewType {

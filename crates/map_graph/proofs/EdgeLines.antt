@@ -1,5 +1,5 @@
 -- Lines of edges, by the names of the edges at a vertex.
-use Rattle.std.proofs.Common.{◌≡◌, ℕ, zero, suc, ◌+◌, ◌-◌, ◌<◌, ◌≤◌, length, get_or, drop, Bool, true, false, cond, List, [], ◌∷◌, ◌++◌, map, Option, Some, None, refl, ap, sym, subst, ◌∙◌, arith, append_assoc}
+use Rattle.std.proofs.Common.{◌≡◌, ℕ, zero, suc, ◌+◌, ◌-◌, ◌<◌, ◌≤◌, length, get_or, drop, Bool, true, false, cond, ◌&&◌, List, [], ◌∷◌, ◌++◌, map, Option, Some, None, refl, ap, sym, subst, ◌∙◌, arith, append_assoc}
 use Rattle.std.specs.List.{AllByRecursion, filter, flat_map, slice_get}
 use Rattle.std.specs.List.Sorted.{IsStrictlySortedBy}
 use Rattle.std.specs.Ordering.{is_eq, ordering_reverse}
@@ -14,8 +14,7 @@ use Rattle.graph_model.specs.Maps.{Map, set_of, add}
 use Rattle.graph_model.specs.Graph.{Edge, EdgeKey, edge_cmp}
 use Rattle.graph_model.specs.ListCalls.{other_end}
 use Rattle.graph_model.proofs.Entries.{All-filter, edge_cmp_total, same_value, nothing}
-use Rattle.map_graph.specs.Lines.{entry_of, entries_at, is_wanted, line_at}
-use Rattle.map_graph.specs.declared.edge_lines.Wanted.{Wanted}
+use Rattle.map_graph.specs.Lines.{entry_of, entries_at, line_at}
 
 abbrev Edges : Type 0
 Edges = Map EdgeKey Edge
@@ -41,31 +40,35 @@ entries_passing p es rises = entries_found es (filter p es) (All-filter _ _ p (�
 
 -- ---- line by line
 
-module _ (at_source : Bool) (wanted : Wanted) where
+module _ (at_source : Bool) (p : EdgeKey × Edge → Bool) where
   abbrev lines : List (EdgeKey × Edge) → List EdgeLine
-  lines es = map (line_at at_source) (filter (λ entry. is_wanted wanted entry.1.undirected) es)
+  lines es = map (line_at at_source) (filter p es)
 
   lines-append : (es fs : List (EdgeKey × Edge)) → lines (es ++ fs) ≡ lines es ++ lines fs
   lines-append [] fs = refl
   lines-append (e ∷ es) fs =
-      elim (is_wanted wanted e.1.undirected) as (λ b. map (line_at at_source) (cond b (e ∷ filter (λ entry. is_wanted wanted entry.1.undirected) (es ++ fs)) (filter (λ entry. is_wanted wanted entry.1.undirected) (es ++ fs)))
-      ≡ map (line_at at_source) (cond b (e ∷ filter (λ entry. is_wanted wanted entry.1.undirected) es) (filter (λ entry. is_wanted wanted entry.1.undirected) es)) ++ lines fs) [
+      elim (p e) as (λ b. map (line_at at_source) (cond b (e ∷ filter p (es ++ fs)) (filter p (es ++ fs))) ≡ map (line_at at_source) (cond b (e ∷ filter p es) (filter p es)) ++ lines fs) [
         | true ↦ ap (λ rest. line_at at_source e ∷ rest) (lines-append es fs)
         | false ↦ lines-append es fs
       ]
 
   -- one more line, or none
-  pub lines_more : (edges : Edges) (before after whole : List EdgeLine) (keys rest : List EdgeKey) (key : EdgeKey) (found : Option Edge) → keys ≡ key ∷ rest → found ≡ find edge_cmp key edges
-      → after ≡ before ++ lines (entry_of key found) → before ++ lines (entries_at edges keys) ≡ whole → after ++ lines (entries_at edges rest) ≡ whole
-  lines_more edges before after whole keys rest key found next is pushed all =
-      ap (λ ls. ls ++ lines (entries_at edges rest)) (pushed ∙ ap (λ o. before ++ lines (entry_of key o)) is)
+  pub lines_more : (edges : Edges) (before after whole : List EdgeLine) (keys rest : List EdgeKey) (key : EdgeKey) → keys ≡ key ∷ rest
+      → after ≡ before ++ lines (entry_of key (find edge_cmp key edges)) → before ++ lines (entries_at edges keys) ≡ whole → after ++ lines (entries_at edges rest) ≡ whole
+  lines_more edges before after whole keys rest key next pushed all =
+      ap (λ ls. ls ++ lines (entries_at edges rest)) pushed
       ∙ append_assoc before (lines (entry_of key (find edge_cmp key edges))) (lines (entries_at edges rest))
       ∙ ap (λ ls. before ++ ls) (sym (lines-append (entry_of key (find edge_cmp key edges)) (entries_at edges rest)))
       ∙ ap (λ ks. before ++ lines (entries_at edges ks)) (sym next) ∙ all
 
-pub filter-all : {X : Type 0} (xs : List X) → filter (λ (x : X). true) xs ≡ xs
-filter-all [] = refl
-filter-all (x ∷ xs) = ap (λ rest. x ∷ rest) (filter-all xs)
+-- what is wanted, and of that what passes
+pub filter-both : {X : Type 0} (p q : X → Bool) (xs : List X) → filter (λ x. p x && q x) xs ≡ filter q (filter p xs)
+filter-both p q [] = refl
+filter-both p q (x ∷ xs) =
+    elim (p x) as (λ b. cond (b && q x) (x ∷ filter (λ y. p y && q y) xs) (filter (λ y. p y && q y) xs) ≡ filter q (cond b (x ∷ filter p xs) (filter p xs))) [
+      | true ↦ ap (λ rest. cond (q x) (x ∷ rest) rest) (filter-both p q xs)
+      | false ↦ filter-both p q xs
+    ]
 
 -- ---- the other ends, from the last line on
 

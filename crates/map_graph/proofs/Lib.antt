@@ -8,8 +8,14 @@ pub mod Ends
 pub mod Writes
 pub mod Places
 pub mod Slots
-pub mod Standing
 pub mod PutBack
 pub mod Noting
 pub mod Fronts
 pub mod ObjectWords
+pub mod ItemByItem
+pub mod Names
+pub mod Known
+pub mod Steps
+pub mod Fitting
+pub mod Walking
+pub mod ListAnswers

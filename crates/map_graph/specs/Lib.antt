@@ -1,3 +1,4 @@
 pub mod Plain
 pub mod Lines
 pub mod Noted
+pub mod Marked

@@ -2,7 +2,7 @@
 use Rattle.std.specs.Prelude.{◌≡◌, ℕ, ◌+◌, ◌<◌, ◌≤◌, Bool, false, List, [], length, ◌&&◌, sum_by, count_by, ◌==◌, IsSome, IsSomeAnd}
 use Rattle.std.specs.List.{AllByRecursion, list_any}
 use Rattle.gdi_kinds.specs.declared.call.Call.{Call}
-use Rattle.gdi_kinds.specs.declared.call.Call.TheVariants.{NewLabel, NewType, Vertex as MakeVertex, Has, DropVertex, Tag, Untag, Set, Add, Get, Unset, Edge as MakeEdge, UEdge, Cut, Target, ETag, EUntag, ESet, EAdd, EGet, EUnset, Near, Degree, Vertices, Arcs}
+use Rattle.gdi_kinds.specs.declared.call.Call.TheVariants.{NewLabel, NewType, Vertex as MakeVertex, Has, DropVertex, Tag, Untag, Tags, Set, Add, Get, Unset, Props, Edge as MakeEdge, UEdge, Cut, Target, ETag, EUntag, ETags, ESet, EAdd, EGet, EUnset, EProps, Edges, Near, Degree, Find, Hood, Levels, Parts, Scan, Vertices, Arcs}
 use Rattle.gdi_kinds.specs.declared.reply.Reply.{Reply}
 use Rattle.rma_layout.specs.Shape.{Shape}
 use Rattle.rma_layout.specs.Placement.{raw_of, bucket_of}
@@ -86,15 +86,25 @@ pub record IsCounted (shape : Shape) (labels : List Name) (types : List PropType
   pub incoming : torn ≡ false → Indexes target_of edges in_index
   pub ends : torn ≡ false → AllByRecursion (IsBetween vertices) edges
 
--- the calls that list or count edges and vertices, as far as they stand
+-- the calls that list, find or count
 abbrev pub IsList : Call → Type 0
+IsList (Tags id) = Unit {0}
+IsList (Props id) = Unit {0}
+IsList (ETags source ordinal) = Unit {0}
+IsList (EProps source ordinal) = Unit {0}
+IsList (Edges id dir test) = Unit {0}
 IsList (Near id dir) = Unit {0}
 IsList (Degree id dir) = Unit {0}
+IsList (Find label test) = Unit {0}
+IsList (Hood id depth) = Unit {0}
+IsList (Levels id) = Unit {0}
+IsList Parts = Unit {0}
+IsList (Scan label test) = Unit {0}
 IsList Vertices = Unit {0}
 IsList Arcs = Unit {0}
 IsList call = ⊥
 
--- the calls on an edge that stand
+-- and those on an edge
 abbrev pub IsOnEdge : Call → Type 0
 IsOnEdge (Cut source ordinal) = Unit {0}
 IsOnEdge (Target source ordinal) = Unit {0}
@@ -106,19 +116,19 @@ IsOnEdge (EGet source ordinal prop) = Unit {0}
 IsOnEdge (EUnset source ordinal prop) = Unit {0}
 IsOnEdge call = IsList call
 
--- the calls that stand
-abbrev pub Stands : Call → Type 0
-Stands (NewLabel name) = Unit {0}
-Stands (NewType name kind many) = Unit {0}
-Stands (MakeVertex id) = Unit {0}
-Stands (Has id) = Unit {0}
-Stands (DropVertex id) = Unit {0}
-Stands (Tag id label) = Unit {0}
-Stands (Untag id label) = Unit {0}
-Stands (Set id prop value) = Unit {0}
-Stands (Add id prop value) = Unit {0}
-Stands (Get id prop) = Unit {0}
-Stands (Unset id prop) = Unit {0}
-Stands (MakeEdge source target label) = Unit {0}
-Stands (UEdge source target label) = Unit {0}
-Stands call = IsOnEdge call
+-- and the others: these are all
+abbrev pub IsAny : Call → Type 0
+IsAny (NewLabel name) = Unit {0}
+IsAny (NewType name kind many) = Unit {0}
+IsAny (MakeVertex id) = Unit {0}
+IsAny (Has id) = Unit {0}
+IsAny (DropVertex id) = Unit {0}
+IsAny (Tag id label) = Unit {0}
+IsAny (Untag id label) = Unit {0}
+IsAny (Set id prop value) = Unit {0}
+IsAny (Add id prop value) = Unit {0}
+IsAny (Get id prop) = Unit {0}
+IsAny (Unset id prop) = Unit {0}
+IsAny (MakeEdge source target label) = Unit {0}
+IsAny (UEdge source target label) = Unit {0}
+IsAny call = IsOnEdge call

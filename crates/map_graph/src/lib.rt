@@ -4,7 +4,9 @@
 mod edge_lines;
 mod journal;
 mod map_graph;
+mod marked;
 mod refused;
+mod shown;
 mod undo;
 
 pub use journal::Journal;

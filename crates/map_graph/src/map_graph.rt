@@ -1,29 +1,37 @@
-ghost use Rattle.std.specs.Prelude.{◌≡◌, IfOk, OnOk};
-ghost use Rattle.std.specs.List.{AllByRecursion};
+ghost use Rattle.std.specs.Prelude.{◌≡◌, ◌<◌, ◌^◌, FitsSigned, IfOk, OnOk};
+ghost use Rattle.std.specs.Int.{w64};
 ghost use Rattle.graph_model.specs.Graph.{empty_graph};
 ghost use Rattle.graph_model.specs.Calls.{graph_after_call, reply_to};
 ghost use Rattle.graph_model.specs.Transactions.{graph_after_calls, graph_after_txn, replies_to, replies_to_calls};
-ghost use Rattle.map_graph.specs.Plain.{Answers, IsOnEdge, Stands};
+ghost use Rattle.gdi_kinds.specs.Names.{IsName};
+ghost use Rattle.graph_model.specs.Laws.{FitsCall};
+ghost use Rattle.graph_model.specs.WellFormed.{IsWellFormed, IsValue};
+ghost use Rattle.map_graph.specs.Plain.{Answers, IsAny, IsOnEdge};
 
 mod asked;
 mod edge_changes;
+mod edge_listing;
 mod edge_props;
 mod edge_tags;
 mod edges;
+mod finds;
 mod lists;
 mod looks;
 mod names;
 mod noted;
 mod notes;
+mod passing;
 mod props;
+mod reads;
 mod restore;
 mod sizes;
 mod tags;
 mod vertices;
+mod walks;
 
 use crate::ModelRefused;
 use edge_index::{EdgeIndex, EdgeKey};
-use gdi_kinds::{Call, ListOf, NameList, Reply, ReplyList, Txn};
+use gdi_kinds::{Call, ListOf, Name, NameList, Reply, ReplyList, Txn, Value};
 use graph_parts::{HeldEdge, HeldType, HeldVertex, Tally};
 use rma_layout::Geometry;
 use std::alloc::Global;
@@ -73,6 +81,7 @@ impl MapGraph {
     pub fn new(alloc: Global, geometry: Geometry) -> MapGraph
         ensures shape { result.shape ≡ geometry }
         ensures empty { result.graph ≡ empty_graph }
+        ensures well_formed { IsWellFormed result.graph }
     {
         MapGraph {
             alloc,
@@ -90,11 +99,21 @@ impl MapGraph {
         }
     }
 
-    /// Does a call and answers its reply. So far it takes the calls that make labels, types, vertices and edges, those that
-    /// drop and ask for vertices, that cut an edge and ask where it leads, that tag and untag a vertex or an edge and set,
-    /// add, get and unset a property of it, and those that count edges and vertices and tell of a vertex's neighbours.
+    /// Does a call and answers its reply.
     pub fn apply(&mut self, call: &Call) -> Result<Reply, ModelRefused>
-        requires { Stands call.now }
+        requires { IsWellFormed self.old.graph }
+        ensures shape { self.new.shape ≡ self.old.shape }
+        ensures reply { IfOk result (λ reply. reply ≡ reply_to self.old.shape self.old.graph call.now) }
+        ensures graph { OnOk result (self.new.graph ≡ graph_after_call self.old.shape self.old.graph call.now) }
+        ensures well_formed { OnOk result (IsWellFormed self.new.graph) }
+    {
+        fits(call);
+        self.answer(call)
+    }
+
+    fn answer(&mut self, call: &Call) -> Result<Reply, ModelRefused>
+        requires any { IsAny call.now }
+        requires well_formed { IsWellFormed self.old.graph }
         ensures shape { self.new.shape ≡ self.old.shape }
         ensures reply { IfOk result (λ reply. reply ≡ reply_to self.old.shape self.old.graph call.now) }
         ensures graph { OnOk result (self.new.graph ≡ graph_after_call self.old.shape self.old.graph call.now) }
@@ -127,7 +146,8 @@ impl MapGraph {
 
     // The calls on an edge that is there.
     fn apply_to_edge(&mut self, call: &Call) -> Result<Reply, ModelRefused>
-        requires { IsOnEdge call.now }
+        requires on_edge { IsOnEdge call.now }
+        requires well_formed { IsWellFormed self.old.graph }
         ensures shape { self.new.shape ≡ self.old.shape }
         ensures answer { IfOk result (Answers self.old call.now self.new) }
     {
@@ -172,10 +192,11 @@ impl MapGraph {
 
     /// Does the calls of a transaction in order and answers their replies. One that aborts leaves the graph as it was.
     pub fn run(&mut self, txn: &Txn) -> Result<ReplyList, ModelRefused>
-        requires { AllByRecursion Stands txn.now.calls }
+        requires { IsWellFormed self.old.graph }
         ensures shape { self.new.shape ≡ self.old.shape }
         ensures replies { IfOk result (λ replies. replies ≡ replies_to self.old.shape self.old.graph txn.now) }
         ensures graph { OnOk result (self.new.graph ≡ graph_after_txn self.old.shape self.old.graph txn.now) }
+        ensures well_formed { OnOk result (IsWellFormed self.new.graph) }
     {
         if txn.aborts {
             return self.run_and_take_back(txn.calls.as_slice());
@@ -184,10 +205,11 @@ impl MapGraph {
     }
 
     fn run_calls(&mut self, calls: &[Call]) -> Result<ReplyList, ModelRefused>
-        requires { AllByRecursion Stands calls.now }
+        requires { IsWellFormed self.old.graph }
         ensures shape { self.new.shape ≡ self.old.shape }
         ensures replies { IfOk result (λ replies. replies ≡ replies_to_calls self.old.shape self.old.graph calls.now) }
         ensures graph { OnOk result (self.new.graph ≡ graph_after_calls self.old.shape self.old.graph calls.now) }
+        ensures well_formed { OnOk result (IsWellFormed self.new.graph) }
     {
         let mut replies = ReplyList::new(self.alloc);
         for call in calls {
@@ -197,3 +219,45 @@ impl MapGraph {
         Ok(replies)
     }
 }
+
+// Names, values and identifiers of a call fit a graph.
+fn fits(call: &Call)
+    ensures { FitsCall call.now }
+{
+    match call {
+        Call::NewLabel { name } => name_fits(name),
+        Call::NewType { name, .. } => name_fits(name),
+        Call::Set { value, .. } => value_fits(value),
+        Call::Add { value, .. } => value_fits(value),
+        Call::ESet { value, .. } => value_fits(value),
+        Call::EAdd { value, .. } => value_fits(value),
+        Call::Vertex { id } => id_fits(*id),
+        _ => {}
+    }
+}
+
+fn id_fits(id: u64)
+    ensures { id < 2 ^ 64 }
+{}
+
+fn name_fits(name: &Name)
+    ensures { IsName name.now }
+{
+    let _bytes = name.bytes();
+}
+
+fn value_fits(value: &Value)
+    ensures { IsValue value.now }
+{
+    match value {
+        Value::Int(n) => int_fits(*n),
+        Value::Bool(_) => {}
+        Value::Text(text) => {
+            let _bytes = text.bytes();
+        }
+    }
+}
+
+fn int_fits(n: i64)
+    ensures { FitsSigned w64 n }
+{}

@@ -1,52 +1,78 @@
-ghost use Rattle.std.specs.Prelude.{◌≡◌, ◌++◌, map, IfOk};
-ghost use Rattle.std.specs.List.{filter};
+ghost use Rattle.std.specs.Prelude.{◌≡◌, map, IfOk};
 ghost use Rattle.gdi_kinds.specs.declared.call.Call.TheVariants as call;
-ghost use Rattle.graph_model.specs.Graph.{edges_from, edges_to};
-ghost use Rattle.graph_model.specs.Lookups.{out_lines, in_lines};
 ghost use Rattle.graph_model.specs.Maps.{set_of};
-ghost use Rattle.graph_model.specs.ListCalls.{every_line, other_end};
+ghost use Rattle.graph_model.specs.ListCalls.{other_end};
+ghost use Rattle.graph_model.specs.WellFormed.{IsWellFormed};
 ghost use Rattle.map_graph.specs.Plain.{Answers, IsList};
-ghost use Rattle.map_graph.specs.Lines.{is_wanted};
 
 use super::MapGraph;
 use crate::ModelRefused;
-use crate::edge_lines::{Wanted, lines_of};
-use gdi_kinds::{Call, Dir, EdgeLine, EdgeList, NoMemory, NumList, Reply};
+use gdi_kinds::{Call, Dir, EdgeLine, EdgeList, NoMemory, NumList, Reply, Test};
 use std::alloc::Global;
 use std::collections::BTreeSet;
 
-// The calls that list or count edges and vertices.
+// The calls that list, find or count edges and vertices.
 impl MapGraph {
     pub(super) fn list(&self, call: &Call) -> Result<Reply, ModelRefused>
-        requires { IsList call.now }
+        requires list { IsList call.now }
+        requires well_formed { IsWellFormed self.now.graph }
         ensures { IfOk result (Answers self.now call.now self.now) }
     {
         match call {
+            Call::Tags { id } => self.tags(*id),
+            Call::Props { id } => self.props(*id),
+            Call::ETags { source, ordinal } => self.edge_tags(*source, *ordinal),
+            Call::EProps { source, ordinal } => self.edge_props(*source, *ordinal),
+            Call::Edges { id, dir, test } => self.edges(*id, *dir, test),
             Call::Near { id, dir } => self.near(*id, *dir),
             Call::Degree { id, dir } => self.degree(*id, *dir),
+            Call::Find { label, test } => self.find(label, test),
+            Call::Hood { id, depth } => self.hood(*id, *depth),
+            Call::Levels { id } => self.levels(*id),
+            Call::Parts => self.parts(),
+            Call::Scan { label, test } => self.scan(label, test),
             Call::Vertices => Ok(self.count_vertices()),
             Call::Arcs => Ok(self.count_edges()),
             _ => unreachable!(),
         }
     }
 
+    fn edges(&self, id: u64, dir: Dir, test: &Option<Test>) -> Result<Reply, ModelRefused>
+        requires { IsWellFormed self.now.graph }
+        ensures { IfOk result (Answers self.now (call.Edges id dir test.now) self.now) }
+    {
+        if let Err(refusal) = self.names_known(test) {
+            return Ok(refusal);
+        }
+        let Some(_vertex) = self.vertex(id) else {
+            return Ok(Reply::NoVertex(id));
+        };
+        if let Err(refusal) = self.kinds_agree(test) {
+            return Ok(refusal);
+        }
+        let lines = self.lines_at(id, dir, test)?;
+        Ok(Reply::Edges(lines))
+    }
+
     fn near(&self, id: u64, dir: Dir) -> Result<Reply, ModelRefused>
+        requires { IsWellFormed self.now.graph }
         ensures { IfOk result (Answers self.now (call.Near id dir) self.now) }
     {
         let Some(_vertex) = self.vertex(id) else {
             return Ok(Reply::NoVertex(id));
         };
-        let lines = self.every_line(id, dir)?;
+        let lines = self.lines_at(id, dir, &None)?;
         Ok(Reply::Ids(other_ends(self.alloc(), id, &lines)?))
     }
 
     fn degree(&self, id: u64, dir: Dir) -> Result<Reply, ModelRefused>
+        requires { IsWellFormed self.now.graph }
         ensures { IfOk result (Answers self.now (call.Degree id dir) self.now) }
     {
         let Some(_vertex) = self.vertex(id) else {
             return Ok(Reply::NoVertex(id));
         };
-        let lines = self.every_line(id, dir)?;
+        let lines = self.lines_at(id, dir, &None)?;
         Ok(Reply::Count(lines.len() as u64))
     }
 
@@ -60,62 +86,6 @@ impl MapGraph {
         ensures { Answers self.now call.Arcs self.now result }
     {
         Reply::Count(self.edges.len() as u64)
-    }
-
-    // The lines of the edges at a vertex.
-    fn every_line(&self, id: u64, dir: Dir) -> Result<EdgeList, NoMemory>
-        ensures { IfOk result (λ lines. lines ≡ every_line self.now.graph id dir) }
-    {
-        match dir {
-            Dir::Outward => Ok(self.out_lines(id, Wanted::Directed)?),
-            Dir::Inward => Ok(self.in_lines(id, Wanted::Directed)?),
-            Dir::Undirected => Ok(self.lines_of_both(id, Wanted::Undirected)?),
-            Dir::Either => Ok(self.lines_of_both(id, Wanted::Any)?),
-        }
-    }
-
-    // The lines of edges from a vertex, and then of those to it.
-    fn lines_of_both(&self, id: u64, wanted: Wanted) -> Result<EdgeList, NoMemory>
-        ensures { IfOk result (λ lines. lines ≡ out_lines (filter (λ entry. is_wanted wanted entry.1.undirected) (edges_from self.now.graph id))
-            ++ in_lines (filter (λ entry. is_wanted wanted entry.1.undirected) (edges_to self.now.graph id))) }
-    {
-        let outward = self.out_lines(id, wanted)?;
-        let inward = self.in_lines(id, wanted)?;
-        let mut lines = outward.into_vec();
-        lines.extend_from_slice(inward.as_slice())?;
-        Ok(EdgeList::from_vec(lines))
-    }
-
-    // The lines of edges from a vertex.
-    fn out_lines(&self, id: u64, wanted: Wanted) -> Result<EdgeList, NoMemory>
-        ensures { IfOk result (λ lines. lines ≡ out_lines (filter (λ entry. is_wanted wanted entry.1.undirected) (edges_from self.now.graph id))) }
-    {
-        if self.torn {
-            return Err(NoMemory);
-        }
-        // This tells that the names are in order.
-        let _count = self.edges.len();
-        let Some(keys) = self.outgoing.get(id) else {
-            return Ok(EdgeList::new(self.alloc));
-        };
-        let lines = lines_of(self.alloc, &self.edges, keys, true, wanted)?;
-        Ok(lines)
-    }
-
-    // The lines of edges to a vertex.
-    fn in_lines(&self, id: u64, wanted: Wanted) -> Result<EdgeList, NoMemory>
-        ensures { IfOk result (λ lines. lines ≡ in_lines (filter (λ entry. is_wanted wanted entry.1.undirected) (edges_to self.now.graph id))) }
-    {
-        if self.torn {
-            return Err(NoMemory);
-        }
-        // This tells that the names are in order.
-        let _count = self.edges.len();
-        let Some(keys) = self.incoming.get(id) else {
-            return Ok(EdgeList::new(self.alloc));
-        };
-        let lines = lines_of(self.alloc, &self.edges, keys, false, wanted)?;
-        Ok(lines)
     }
 }
 

@@ -1,10 +1,9 @@
-use Rattle.std.proofs.Common.{drop-cons, [], sym, subst, ap, arith, length}
-use Rattle.std.specs.List.{AllByRecursion}
+use Rattle.std.proofs.Common.{[], sym, subst, ap, arith, length}
 use Rattle.std.proofs.lemmas.List.{get_or_default}
 use Rattle.rma_layout.specs.Shape.{standard_shape}
 use Rattle.graph_model.specs.LegalRun.{IsLegalRun}
-use Rattle.gdi_run.specs.BareScripts.{IsBareScript, IsPlainTxn}
-use Rattle.gdi_run.proofs.PlainRuns.{few_writes, plain_is_legal, txns_are_bare}
+use Rattle.gdi_run.specs.BareScripts.{IsBareScript}
+use Rattle.gdi_run.proofs.PlainRuns.{few_writes, plain_is_legal}
 use Rattle.gdi_run.proofs.runner.run_script.Goals as goal
 
 -- the entries so far are no more than the transactions, which are few
@@ -23,9 +22,3 @@ returns c =
     let legal = plain_is_legal c.as_slice-section-items.result.now c.loop-index.run.lines c.loop-index.run.graph.graph c.loop-index.run.writes c.loop-index.index plain c.loop-index-test.false
     c.loop-index.invariant.lines c.loop-index.invariant.writes in
     subst (λ script. IsLegalRun standard_shape [] script (record { lines = c.loop-index.run.lines; writes = c.loop-index.run.writes })) c.as_slice-section-items.ensures legal
-
-pub run_section-requires-clause-bare : goal.run_section-requires-clause-bare
-run_section-requires-clause-bare c =
-    let split = drop-cons c.as_slice-section-items.result.now c.loop-index.index c.section-item.result c.loop-index-test.true in
-    let here = (subst (AllByRecursion (AllByRecursion IsPlainTxn)) split c.loop-index.invariant.plain).0 in
-    txns_are_bare c.section-item.result (subst (AllByRecursion IsPlainTxn) (sym c.section-item.is) here)

@@ -1,7 +1,6 @@
 use Rattle.std.proofs.Common.{◌≡◌, ◌+◌, ◌≤◌, List, ◌++◌, drop}
-use Rattle.std.specs.List.{AllByRecursion}
-use Rattle.graph_model.specs.Bare.{IsBareCall}
 use Rattle.graph_model.specs.Placed.{Placed, placed_from}
+use Rattle.graph_model.specs.WellFormed.{IsWellFormed}
 use Rattle.gdi_run.specs.Serial.{serial_lines, serial_writes}
 use Rattle.gdi_run.proofs.runner.run_section.Given as goal
 
@@ -13,6 +12,6 @@ invariant-loop-index l = record {
       ≡ l.fn.run.lines ++ serial_lines l.fn.run.graph.shape l.fn.run.graph.graph l.fn.run.writes (placed_from l.number 1 l.section ++ rest);
   writes : (rest : List Placed) → serial_writes l.run.writes (placed_from l.number (l.index + 1) (drop l.index l.section) ++ rest)
       ≡ serial_writes l.fn.run.writes (placed_from l.number 1 l.section ++ rest);
-  bare : AllByRecursion (λ txn. AllByRecursion IsBareCall txn.calls) (drop l.index l.section);
+  well_formed : IsWellFormed l.run.graph.graph;
   room : l.run.writes ≤ l.fn.run.writes + l.index;
 }

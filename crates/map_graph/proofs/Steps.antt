@@ -1,0 +1,195 @@
+-- Walks by the steps of rows are those of the graph.
+use Rattle.std.proofs.Common.{◌≡◌, ℕ, zero, suc, ◌+◌, ◌-◌, ◌<◌, ◌≤◌, Bool, true, false, cond, ◌&&◌, ◌||◌, List, [], ◌∷◌, ◌++◌, length, map, Option, Some, None, is_some, if◌then◌else◌, inl, inr, refl, sym, ap, subst, ◌∙◌, eqb, arith, true≢false}
+use Rattle.std.specs.Prelude as prelude
+use Rattle.std.specs.Prelude.{◌==◌, IsSome, IsSomeAnd, nat_le, nat_lt, count_by}
+use Rattle.std.specs.List.{AllByRecursion, list_any, flat_map, filter}
+use Rattle.std.specs.Option.{option_map_or, option_or}
+use Rattle.std.proofs.lemmas.Bool.{and_parts, and_from, or_cases, or_left, or_right, eqb-true, eq-eqb}
+use Rattle.std.proofs.lemmas.Bool.Decides.{nat_tests}
+use Rattle.std.proofs.lemmas.List.Folds.{list_any-append}
+use Rattle.std.proofs.lemmas.List.Sums.{sum_by-cons}
+use Rattle.graph_model.specs.Maps.{Map, keys, has, at}
+use Rattle.graph_model.specs.Graph.{Graph, Vertex, Edge, EdgeKey, vertex_at}
+use Rattle.graph_model.specs.WellFormed.{IsWellFormed}
+use Rattle.graph_model.specs.Walks.{both_ways, steps_over, graph_steps, joining_steps, is_walk_by, level_of, component_of, least_below}
+use Rattle.graph_model.proofs.Entries.{same_value, nothing, never}
+use Rattle.graph_model.proofs.Shortest.{IsWalking}
+use Rattle.graph_model.proofs.Levels.{EndsAreThere, walking, led-there, steps-there, listed, length-keys}
+use Rattle.graph_model.proofs.Components.{component_least, vertex_component}
+use Rattle.graph_walks.specs.Steps.{leads, IsTwoWay, LeadsInto, IsLeastJoined}
+use Rattle.graph_walks.proofs.Fronts.{same_tests, least-more}
+
+-- ---- the same steps, the same walks
+
+module _ (a b : List (ℕ × ℕ)) (same : (i t : ℕ) → leads a i t ≡ leads b i t) where
+  walk-over : (n i j : ℕ) → is_walk_by a n i j ≡ true → is_walk_by b n i j ≡ true
+  walk-over zero i j walk = walk
+  walk-over (suc n) i j walk =
+      let first = (walking a).splits n i j walk in
+      (walking b).joins n i first.0 j (sym (same i first.0) ∙ first.1) (walk-over n first.0 j first.2)
+
+pub same_walks : (a b : List (ℕ × ℕ)) → ((i t : ℕ) → leads a i t ≡ leads b i t) → (n i j : ℕ) → is_walk_by a n i j ≡ is_walk_by b n i j
+same_walks a b same n i j = same_tests _ _ (walk-over a b same n i j) (walk-over b a (λ i t. sym (same i t)) n i j)
+
+pub same_levels : (a b : List (ℕ × ℕ)) → ((i t : ℕ) → leads a i t ≡ leads b i t) → (i j bound : ℕ) → least_below (λ n. is_walk_by a n i j) bound ≡ least_below (λ n. is_walk_by b n i j) bound
+same_levels a b same i j bound = ap (λ (p : ℕ → Bool). least_below p bound) (λ k n. same_walks a b same n i j k)
+
+-- ---- steps of edges
+
+leads-append : (a b : List (ℕ × ℕ)) (i t : ℕ) → leads (a ++ b) i t ≡ (leads a i t || leads b i t)
+leads-append a b i t = list_any-append (λ (step : ℕ × ℕ). step.0 == i && step.1 == t) a b
+
+or-assoc : (x y z : Bool) → ((x || y) || z) ≡ (x || (y || z))
+or-assoc true y z = refl
+or-assoc false y z = refl
+
+pub or-false : (x : Bool) → (x || false) ≡ x
+or-false true = refl
+or-false false = refl
+
+-- the steps so far and those of the edges to come
+pub steps_more : (over : EdgeKey × Edge → List (ℕ × ℕ)) (before after : List (ℕ × ℕ)) (es rest whole : Map EdgeKey Edge) (e : EdgeKey × Edge) → es ≡ e ∷ rest
+    → ((i t : ℕ) → leads after i t ≡ (leads before i t || leads (over e) i t))
+    → ((i t : ℕ) → (leads before i t || leads (flat_map over es) i t) ≡ leads (flat_map over whole) i t)
+    → (i t : ℕ) → (leads after i t || leads (flat_map over rest) i t) ≡ leads (flat_map over whole) i t
+steps_more over before after es rest whole e next added so_far i t =
+    ap (λ b. b || leads (flat_map over rest) i t) (added i t)
+    ∙ or-assoc (leads before i t) (leads (over e) i t) (leads (flat_map over rest) i t)
+    ∙ ap (λ b. leads before i t || b) (sym (leads-append (over e) (flat_map over rest) i t))
+    ∙ ap (λ es. leads before i t || leads (flat_map over es) i t) (sym next) ∙ so_far i t
+
+-- both ways over each edge
+abbrev pub both_over : EdgeKey × Edge → List (ℕ × ℕ)
+both_over entry = both_ways entry.0.source entry.1.target
+
+twice : (x y z : Bool) → (x || (y || (y || (x || z)))) ≡ (x || (y || z))
+twice true y z = refl
+twice false true z = refl
+twice false false z = refl
+
+pub joining-over : (es : Map EdgeKey Edge) (i t : ℕ) → leads (flat_map (λ step. both_ways step.0 step.1) (flat_map steps_over es)) i t ≡ leads (flat_map both_over es) i t
+joining-over [] i t = refl
+joining-over (e ∷ es) i t =
+    let there = e.0.source == i && e.1.target == t in
+    let back = e.1.target == i && e.0.source == t in
+    elim e.1.undirected as (λ u. leads (flat_map (λ step. both_ways step.0 step.1) ((if u then both_ways e.0.source e.1.target else (e.0.source, e.1.target) ∷ []) ++ flat_map steps_over es)) i t ≡ leads (flat_map both_over (e ∷ es)) i t) [
+      | true ↦
+          ap (λ b. there || (back || (back || (there || b)))) (joining-over es i t)
+          ∙ twice there back (leads (flat_map both_over es) i t)
+      | false ↦ ap (λ b. there || (back || b)) (joining-over es i t)
+    ]
+
+-- ---- steps that may be taken back
+
+and-turn : (x y : Bool) → (x && y) ≡ (y && x)
+and-turn true true = refl
+and-turn true false = refl
+and-turn false true = refl
+and-turn false false = refl
+
+or-swap : (x y z : Bool) → (x || (y || z)) ≡ (y || (x || z))
+or-swap true true z = refl
+or-swap true false z = refl
+or-swap false true z = refl
+or-swap false false z = refl
+
+two-way : (steps : List (ℕ × ℕ)) (i t : ℕ) → leads (flat_map (λ step. both_ways step.0 step.1) steps) i t ≡ leads (flat_map (λ step. both_ways step.0 step.1) steps) t i
+two-way [] i t = refl
+two-way (s ∷ ss) i t =
+    ap (λ b. (s.0 == i && s.1 == t) || ((s.1 == i && s.0 == t) || b)) (two-way ss i t)
+    ∙ or-swap (s.0 == i && s.1 == t) (s.1 == i && s.0 == t) _
+    ∙ ap (λ b. b || ((s.0 == i && s.1 == t) || leads (flat_map (λ step. both_ways step.0 step.1) ss) t i)) (and-turn (s.1 == i) (s.0 == t))
+    ∙ ap (λ b. (s.0 == t && s.1 == i) || (b || leads (flat_map (λ step. both_ways step.0 step.1) ss) t i)) (and-turn (s.0 == i) (s.1 == t))
+
+joining-there : (g : Graph) (steps : List (ℕ × ℕ)) → AllByRecursion (EndsAreThere g) steps → AllByRecursion (EndsAreThere g) (flat_map (λ step. both_ways step.0 step.1) steps)
+joining-there g [] all = tt
+joining-there g (s ∷ ss) all = (all.0, ((all.0.1, all.0.0), joining-there g ss all.1))
+
+module _ (g : Graph) (steps : List (ℕ × ℕ)) (same : (i t : ℕ) → leads steps i t ≡ leads (joining_steps g) i t) where
+  pub joining_two_way : IsTwoWay steps
+  joining_two_way = λ i t step. same t i ∙ two-way (graph_steps g) t i ∙ sym (same i t) ∙ step
+
+  pub joining_into : (ids : List ℕ) → ids ≡ keys g.vertices → IsWellFormed g → LeadsInto steps ids
+  joining_into ids is well = λ i t step.
+      ap (λ ks. has ks t) is
+      ∙ listed g t (led-there g (joining_steps g) (joining-there g (graph_steps g) (steps-there g g.edges well.each_edge)) i t (sym (same i t) ∙ step))
+
+  -- the least that is joined is the component's name
+  pub named : (j c : ℕ) → IsWellFormed g → IsSome (vertex_at g j) → IsLeastJoined steps j c → component_of g j ≡ Some c
+  named j c well there least_joined =
+      elim (component_of g j) as (λ o. component_of g j ≡ o → is_some o ≡ true → component_of g j ≡ Some c) [
+        | None ↦ λ _ wrong. never wrong
+        | Some d ↦ λ is _.
+            let is_least = component_least g j d well there is in
+            let walk = is_least.0 in
+            let one = least_joined.least d walk.0 (same_walks steps (joining_steps g) same walk.0 j d ∙ walk.1) in
+            let mine = least_joined.joined in
+            let other = is_least.1 c mine.0 (sym (same_walks steps (joining_steps g) same mine.0 j c) ∙ mine.1) in
+            let equal : d ≡ c = omega (arith, one, other) in
+            is ∙ ap Some equal
+      ] refl (vertex_component g j well there)
+
+-- ---- lists that are told by members alone
+
+pub filter-same : (p q : ℕ → Bool) (ks : List ℕ) → ((j : ℕ) → has ks j ≡ true → p j ≡ q j) → filter p ks ≡ filter q ks
+filter-same p q [] same = refl
+filter-same p q (k ∷ ks) same =
+    ap (λ b. if b then k ∷ filter p ks else filter p ks) (same k (or_left _ _ (eq-eqb k k refl)))
+    ∙ ap (λ rest. if q k then k ∷ rest else rest) (filter-same p q ks (λ j there. same j (or_right _ _ there)))
+
+abbrev one_if : Bool → ℕ
+one_if b = cond b 1 0
+
+pub count-same : (p q : ℕ → Bool) (ks : List ℕ) → ((j : ℕ) → has ks j ≡ true → p j ≡ q j) → count_by p ks ≡ count_by q ks
+count-same p q [] same = refl
+count-same p q (k ∷ ks) same =
+    let later = count-same p q ks (λ j there. same j (or_right _ _ there)) in
+    let here = ap one_if (same k (or_left _ _ (eq-eqb k k refl))) in
+    omega (arith, later, here, sum_by-cons (λ (v : ℕ). one_if (p v)) k ks, sum_by-cons (λ (v : ℕ). one_if (q v)) k ks)
+
+-- ---- levels up to a depth
+
+abbrev pub up_to : ℕ → Option ℕ → Bool
+up_to depth o = option_map_or (λ level. nat_le level depth) o false
+
+module _ (p : ℕ → Bool) (depth : ℕ) where
+  deeper : (n : ℕ) → depth < n → up_to depth (least_below p (suc n)) ≡ up_to depth (least_below p n)
+  deeper n deep =
+      ap (up_to depth) (least-more p n)
+      ∙ elim (least_below p n) as (λ o. up_to depth (option_or o (if p n then Some n else None)) ≡ up_to depth o) [
+        | Some m ↦ refl
+        | None ↦ elim (p n) as (λ b. up_to depth (option_or None (if b then Some n else None)) ≡ false) [
+          | true ↦ grind (arith, nat_tests)
+          | false ↦ refl
+        ]
+      ]
+
+  far : (k : ℕ) → up_to depth (least_below p (k + (depth + 1))) ≡ up_to depth (least_below p (depth + 1))
+  far zero = let sum : zero + (depth + 1) ≡ depth + 1 = omega arith in ap (λ n. up_to depth (least_below p n)) sum
+  far (suc k) =
+      let sum : suc k + (depth + 1) ≡ suc (k + (depth + 1)) = omega arith in
+      ap (λ n. up_to depth (least_below p n)) sum ∙ deeper (k + (depth + 1)) (omega arith) ∙ far k
+
+  pub within_depth : (count : ℕ) → up_to depth (least_below p (if nat_lt depth count then depth + 1 else count)) ≡ up_to depth (least_below p count)
+  within_depth count =
+      elim (nat_lt depth count) as (λ b. nat_lt depth count ≡ b → up_to depth (least_below p (if b then depth + 1 else count)) ≡ up_to depth (least_below p count)) [
+        | true ↦ λ below.
+            let less : depth < count = Rattle.std.proofs.lemmas.Bool.ltb-true depth count below in
+            let sum : (count - (depth + 1)) + (depth + 1) ≡ count = omega (arith, less) in
+            sym (far (count - (depth + 1))) ∙ ap (λ n. up_to depth (least_below p n)) sum
+        | false ↦ λ _. refl
+      ] refl
+
+pub some_vertices : (g : Graph) (id : ℕ) (v : Vertex) → Some v ≡ vertex_at g id → 1 ≤ length (keys g.vertices)
+some_vertices g id v there = by_list g.vertices there
+  where
+    by_list : (vs : Map ℕ Vertex) → Some v ≡ at vs id → 1 ≤ length (keys vs)
+    by_list [] none = nothing v (sym none)
+    by_list (e ∷ es) some = omega arith
+
+pub some_bound : (depth count bound : ℕ) → 1 ≤ count → bound ≡ (if nat_lt depth count then depth + 1 else count) → 1 ≤ bound
+some_bound depth count bound some is =
+    elim (nat_lt depth count) as (λ b. bound ≡ (if b then depth + 1 else count) → 1 ≤ bound) [
+      | true ↦ λ one. omega (arith, one)
+      | false ↦ λ all. omega (arith, all, some)
+    ] is
