@@ -5,10 +5,12 @@ mod edge_lines;
 mod journal;
 mod map_graph;
 mod marked;
+mod object_name;
 mod refused;
 mod shown;
 mod undo;
 
 pub use journal::Journal;
 pub use map_graph::MapGraph;
+pub use object_name::ObjectName;
 pub use refused::ModelRefused;

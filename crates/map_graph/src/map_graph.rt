@@ -20,6 +20,7 @@ mod looks;
 mod names;
 mod noted;
 mod notes;
+mod objects;
 mod passing;
 mod props;
 mod reads;
