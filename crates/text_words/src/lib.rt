@@ -17,6 +17,6 @@ pub use line_words::{after_closing, behind_word, cut, opening_of};
 pub use lines::{first_line, position_of};
 pub use number::number_of;
 pub use test_printer::print_test;
-pub use value_reader::value_of;
+pub use value_reader::{bool_of, int_of, value_of};
 pub use word_printer::{dir_word, kind_word, print_name, print_number, print_value};
 pub use wrong::Wrong;

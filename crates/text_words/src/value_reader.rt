@@ -34,8 +34,8 @@ pub fn value_of(alloc: Global, word: &[u8]) -> Result<Value, Wrong>
     }
 }
 
-// The truth value that a word is.
-fn bool_of(word: &[u8]) -> Option<bool>
+/// The truth value that a word is.
+pub fn bool_of(word: &[u8]) -> Option<bool>
     ensures { MatchOption result ((b : Bool) → word.now ≢ value_text (value.Bool b)) (λ b. word.now ≡ value_text (value.Bool b)) }
 {
     match word {
@@ -45,8 +45,8 @@ fn bool_of(word: &[u8]) -> Option<bool>
     }
 }
 
-// The integer that a word spells: decimal, behind a `-` where it is negative, without a leading zero.
-fn int_of(word: &[u8]) -> Option<i64>
+/// The integer that a word spells: decimal, behind a `-` where it is negative, without a leading zero, in 64 bits.
+pub fn int_of(word: &[u8]) -> Option<i64>
     ensures { MatchOption result ((n : ℤ) → FitsSigned w64 n → word.now ≢ signed_decimal n)
         (λ n. (word.now ≡ signed_decimal n) × FitsSigned w64 n) }
 {

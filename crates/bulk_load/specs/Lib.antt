@@ -1,0 +1,9 @@
+pub mod Numbers
+pub mod Records
+pub mod Headers
+pub mod Fields
+pub mod Rows
+pub mod Loads
+pub mod Reading
+pub mod Cuts
+pub mod Stops

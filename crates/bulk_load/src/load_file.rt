@@ -1,0 +1,6 @@
+/// Which of the two load files.
+#[derive(Clone, Copy, Debug, PartialEq, Eq)]
+pub enum LoadFile {
+    Vertices,
+    Edges,
+}
