@@ -19,8 +19,7 @@ use csv::{ByteRecord, Reader, ReaderBuilder};
 use gdi_kinds::{Call, CallList, NoMemory, Txn};
 use map_graph::MapGraph;
 
-/// The transaction that a load file is. Its calls are done on `graph`, so that it is the graph behind them; each is
-/// answered Done or, where it makes an edge, with the edge.
+/// The transaction that a load file is. Its calls are done on `graph`, so that it is the graph behind them.
 ///
 /// `Bad` tells the first wrong record; `graph` is then only to be dropped, and so it is after `NoMemory`.
 pub fn load_txn(file: LoadFile, bytes: &[u8], graph: &mut MapGraph) -> Result<Txn, LoadRefused>

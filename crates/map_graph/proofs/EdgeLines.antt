@@ -1,6 +1,6 @@
 -- Lines of edges, by the names of the edges at a vertex.
-use Rattle.std.proofs.Common.{◌≡◌, ℕ, zero, suc, ◌+◌, ◌-◌, ◌<◌, ◌≤◌, length, get_or, drop, Bool, true, false, cond, ◌&&◌, List, [], ◌∷◌, ◌++◌, map, Option, Some, None, refl, ap, sym, subst, ◌∙◌, arith, append_assoc}
-use Rattle.std.specs.List.{AllByRecursion, filter, flat_map, slice_get}
+use Rattle.std.proofs.Common.{◌≡◌, ℕ, zero, suc, ◌<◌, length, get_or, drop, Bool, true, false, cond, ◌&&◌, List, [], ◌∷◌, ◌++◌, map, Some, refl, ap, sym, ◌∙◌, append_assoc}
+use Rattle.std.specs.List.{AllByRecursion, filter, slice_get}
 use Rattle.std.specs.List.Sorted.{IsStrictlySortedBy}
 use Rattle.std.specs.Ordering.{is_eq, ordering_reverse}
 use Rattle.std.specs.declared.cmp.Ordering.TheVariants.{Less}
@@ -13,7 +13,7 @@ use Rattle.gdi_kinds.specs.declared.edge_line.EdgeLine.{EdgeLine}
 use Rattle.graph_model.specs.Maps.{Map, set_of, add}
 use Rattle.graph_model.specs.Graph.{Edge, EdgeKey, edge_cmp}
 use Rattle.graph_model.specs.ListCalls.{other_end}
-use Rattle.graph_model.proofs.Entries.{All-filter, edge_cmp_total, same_value, nothing}
+use Rattle.graph_model.proofs.Entries.{All-filter, edge_cmp_total, same_value}
 use Rattle.map_graph.specs.Lines.{entry_of, entries_at, line_at}
 
 abbrev Edges : Type 0

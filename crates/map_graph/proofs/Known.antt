@@ -1,10 +1,10 @@
 -- In a well-formed graph the labels and types of vertices and edges are known.
-use Rattle.std.proofs.Common.{◌≡◌, ℕ, zero, suc, ◌+◌, ◌<◌, List, [], ◌∷◌, length, Option, Some, None, sym, ap, subst, ◌∙◌, arith}
+use Rattle.std.proofs.Common.{◌≡◌, ℕ, zero, suc, ◌<◌, List, [], ◌∷◌, length, Some, sym, ap, ◌∙◌, arith}
 use Rattle.std.specs.Prelude.{IsSomeAnd}
 use Rattle.std.specs.List.{AllByRecursion}
 use Rattle.std.specs.Ordering.{nat_cmp}
 use Rattle.std.specs.FinMap.{nat_cmp-IsAntisymmetric}
-use Rattle.graph_model.specs.Maps.{Map, item_at}
+use Rattle.graph_model.specs.Maps.{item_at}
 use Rattle.graph_model.specs.Graph.{Graph, Props, Vertex, Edge, EdgeKey, edge_cmp, vertex_at, edge_at}
 use Rattle.graph_model.specs.WellFormed.{IsWellFormed, VertexFits, EdgeFits, AreValues}
 use Rattle.graph_model.proofs.Entries.{All-map, All-find, edge_cmp_same}

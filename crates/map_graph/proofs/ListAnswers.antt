@@ -1,5 +1,5 @@
 -- What the calls that list and find answer, refusal by refusal.
-use Rattle.std.proofs.Common.{◌≡◌, ℕ, true, false, List, [], ◌∷◌, Option, Some, None, Result, Ok, Err, sym, ap}
+use Rattle.std.proofs.Common.{◌≡◌, ℕ, true, false, List, [], ◌∷◌, Option, Some, None, Ok, Err, sym, ap}
 use Rattle.gdi_kinds.specs.declared.constraint.Atom.{Atom}
 use Rattle.gdi_kinds.specs.declared.call.Dir.{Dir}
 use Rattle.gdi_kinds.specs.declared.call.Call.TheVariants as call

@@ -1,14 +1,13 @@
 -- The words of buckets, of objects of the index and of the names, by what is counted beside the graph.
-use Rattle.std.proofs.Common.{◌≡◌, ℕ, ◌+◌, ◌*◌, Bool, true, false, ◌&&◌, List, length, if◌then◌else◌, refl, ap, sym, ◌∙◌, eqb, arith}
-use Rattle.std.specs.Prelude.{◌==◌}
+use Rattle.std.proofs.Common.{◌≡◌, ℕ, ◌*◌, Bool, List, ap, sym, ◌∙◌, eqb, arith}
 use Rattle.std.specs.List.{count_by, sum_by}
 use Rattle.rma_layout.specs.Shape.{Shape}
 use Rattle.rma_layout.specs.Ranges.{IsInRange}
 use Rattle.rma_layout.specs.Placement.{Place, same_place, raw_of, FitsOneWord, bucket_of, slot_of}
 use Rattle.graph_model.specs.Maps.{Map}
-use Rattle.graph_model.specs.Graph.{Name, PropType, Graph, Vertex, Edge, EdgeKey}
-use Rattle.graph_model.specs.Sizes.{words_of_bucket, words_of_slot, words_of_names}
-use Rattle.map_graph.specs.Plain.{Plain, graph_of, led_to_by, kept_by, words_of_labels, words_of_types}
+use Rattle.graph_model.specs.Graph.{Name, PropType, Vertex, Edge, EdgeKey}
+use Rattle.graph_model.specs.Sizes.{words_of_bucket, words_of_slot}
+use Rattle.map_graph.specs.Plain.{Plain, graph_of, led_to_by, kept_by}
 use Rattle.map_graph.proofs.Buckets.{same_place-raw}
 
 bucket_fits : (shape : Shape) (id : ℕ) → IsInRange shape → FitsOneWord (bucket_of shape id)

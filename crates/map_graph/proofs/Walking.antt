@@ -1,5 +1,5 @@
 -- What the calls that walk answer.
-use Rattle.std.proofs.Common.{◌≡◌, ℕ, suc, ◌+◌, ◌<◌, ◌≤◌, Bool, true, false, not, List, [], ◌∷◌, length, map, Option, Some, None, is_some, if◌then◌else◌, refl, sym, ap, subst, ◌∙◌, arith}
+use Rattle.std.proofs.Common.{◌≡◌, ℕ, ◌+◌, ◌<◌, Bool, true, false, List, [], ◌∷◌, length, map, Option, Some, None, if◌then◌else◌, sym, ap, subst, ◌∙◌, arith}
 use Rattle.std.specs.Prelude.{◌==◌, IsSome, IsSomeAnd, nat_le, nat_lt, count_by}
 use Rattle.std.specs.List.{AllByRecursion, list_any, filter, filter_map}
 use Rattle.std.specs.Option.{option_map, option_map_or}
@@ -17,7 +17,6 @@ use Rattle.graph_model.specs.WellFormed.{IsWellFormed}
 use Rattle.graph_model.specs.Walks.{graph_steps, joining_steps, is_walk_by, level_of, component_of, least_below}
 use Rattle.graph_model.specs.WholeCalls.{is_in_component, part_of}
 use Rattle.graph_model.proofs.Sets.{is_eq-nat_cmp}
-use Rattle.graph_model.proofs.Entries.{never}
 use Rattle.graph_model.proofs.Levels.{length-keys}
 use Rattle.graph_walks.specs.Steps.{leads, IsLeastJoined}
 use Rattle.map_graph.specs.Marked.{level_pair, is_marked_as, is_marked_within, part_pair}

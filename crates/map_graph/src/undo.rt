@@ -1,5 +1,4 @@
-use graph_parts::HeldEdge;
-use graph_parts::HeldVertex;
+use graph_parts::{HeldEdge, HeldVertex};
 
 /// What was there before a call.
 #[derive(Debug, Drop)]

@@ -10,13 +10,11 @@ ghost use Rattle.map_graph.specs.Plain.{words_of_labels, words_of_types};
 use super::MapGraph;
 use super::names::words_of_name;
 use crate::ModelRefused;
-use graph_parts::HeldEdge;
-use graph_parts::HeldType;
-use graph_parts::HeldVertex;
 use crate::journal::Journal;
 use crate::undo::Undo;
 use edge_index::EdgeKey;
 use gdi_kinds::{ListOf, Name, NameList, NoMemory};
+use graph_parts::{HeldEdge, HeldType, HeldVertex};
 use std::mem;
 
 // How calls are taken back.

@@ -1,7 +1,5 @@
 use Rattle.std.proofs.Common.{◌≡◌}
-use Rattle.graph_model.specs.Graph.{Graph}
 use Rattle.graph_model.specs.Calls.{graph_after_call}
-use Rattle.graph_model.specs.WellFormed.{IsWellFormed}
 use Rattle.map_graph.proofs.Fitting.{any_call, on_ok, still_well}
 use Rattle.map_graph.proofs.map_graph.MapGraph.apply.Goals as goal
 

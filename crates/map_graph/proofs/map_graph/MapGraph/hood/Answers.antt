@@ -1,5 +1,4 @@
-use Rattle.std.proofs.Common.{◌≤◌, ◌+◌, ◌<◌, length, is_some, sym, ap, ◌∙◌, arith}
-use Rattle.std.proofs.lemmas.Bool.Decides.{nat_tests}
+use Rattle.std.proofs.Common.{◌≤◌, length, is_some, sym, ap, ◌∙◌, arith}
 use Rattle.graph_model.specs.Walks.{is_walk_by, least_below}
 use Rattle.map_graph.proofs.Steps.{some_vertices, some_bound}
 use Rattle.map_graph.proofs.Walking.{hood-done, count-is}

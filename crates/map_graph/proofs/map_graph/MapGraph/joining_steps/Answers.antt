@@ -1,8 +1,7 @@
-use Rattle.std.proofs.Common.{ℕ, List, false, ◌||◌, sym, ap, ◌∙◌, subst}
+use Rattle.std.proofs.Common.{◌||◌, sym, ap, ◌∙◌}
 use Rattle.std.specs.List.{flat_map}
 use Rattle.graph_model.specs.Walks.{both_ways}
 use Rattle.graph_walks.specs.Steps.{leads}
-use Rattle.map_graph.specs.Plain.{Plain}
 use Rattle.map_graph.proofs.Steps.{steps_more, or-false, both_over, joining-over}
 use Rattle.map_graph.proofs.map_graph.MapGraph.joining_steps.Goals as goal
 

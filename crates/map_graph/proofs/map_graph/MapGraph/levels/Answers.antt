@@ -1,4 +1,4 @@
-use Rattle.std.proofs.Common.{◌≤◌, length, is_some, sym, ap, arith}
+use Rattle.std.proofs.Common.{length, is_some, sym, ap, arith}
 use Rattle.map_graph.proofs.Steps.{some_vertices}
 use Rattle.map_graph.proofs.Walking.{levels-done, count-is}
 use Rattle.map_graph.proofs.map_graph.MapGraph.levels.Goals as goal

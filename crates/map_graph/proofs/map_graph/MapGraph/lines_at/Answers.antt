@@ -1,6 +1,6 @@
-use Rattle.std.proofs.Common.{◌≡◌, Bool, not, true, ◌&&◌, ◌++◌, sym, ap, ◌∙◌}
+use Rattle.std.proofs.Common.{Bool, not, ◌&&◌, ◌++◌, sym, ap, ◌∙◌}
 use Rattle.std.specs.List.{filter}
-use Rattle.graph_model.specs.Graph.{Edge, EdgeKey, edges_from, edges_to, directed, undirected}
+use Rattle.graph_model.specs.Graph.{Edge, EdgeKey, edges_from, edges_to, undirected}
 use Rattle.graph_model.specs.Lookups.{out_lines, in_lines, lines_at}
 use Rattle.graph_model.specs.ListCalls.{passes_test}
 use Rattle.map_graph.proofs.EdgeLines.{filter-both}

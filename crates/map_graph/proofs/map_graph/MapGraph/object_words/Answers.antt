@@ -1,4 +1,4 @@
-use Rattle.std.proofs.Common.{◌≡◌, ap, sym, ◌∙◌}
+use Rattle.std.proofs.Common.{ap, sym, ◌∙◌}
 use Rattle.graph_model.specs.Capacity.{words_of}
 use Rattle.map_graph.specs.Named.{object_of, rank_in}
 use Rattle.map_graph.proofs.map_graph.MapGraph.object_words.Goals as goal

@@ -1,4 +1,4 @@
-use Rattle.std.proofs.Common.{◌≡◌, Bool, true, false, [], map, sym, ap, ◌∙◌}
+use Rattle.std.proofs.Common.{Bool, [], sym, ap, ◌∙◌}
 use Rattle.std.specs.Prelude.{◌==◌}
 use Rattle.std.specs.List.{filter}
 use Rattle.std.specs.Option.{unwrap_or}

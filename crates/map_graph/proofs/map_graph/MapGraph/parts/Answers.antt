@@ -1,4 +1,3 @@
-use Rattle.std.proofs.Common.{sym}
 use Rattle.map_graph.proofs.Steps.{joining_two_way, joining_into}
 use Rattle.map_graph.proofs.Walking.{ids-rise, parts-done}
 use Rattle.map_graph.proofs.map_graph.MapGraph.parts.Goals as goal

@@ -1,8 +1,7 @@
-use Rattle.std.proofs.Common.{false, ◌||◌, sym, ap, ◌∙◌}
+use Rattle.std.proofs.Common.{◌||◌, sym, ap, ◌∙◌}
 use Rattle.std.specs.List.{flat_map}
 use Rattle.graph_model.specs.Walks.{steps_over}
 use Rattle.graph_walks.specs.Steps.{leads}
-use Rattle.map_graph.specs.Plain.{Plain}
 use Rattle.map_graph.proofs.Steps.{steps_more, or-false}
 use Rattle.map_graph.proofs.map_graph.MapGraph.steps.Goals as goal
 

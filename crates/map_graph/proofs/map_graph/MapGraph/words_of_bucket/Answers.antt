@@ -1,4 +1,4 @@
-use Rattle.std.proofs.Common.{ap, ◌∙◌, arith}
+use Rattle.std.proofs.Common.{◌∙◌, arith}
 use Rattle.map_graph.proofs.ObjectWords.{bucket-words}
 use Rattle.map_graph.proofs.map_graph.MapGraph.words_of_bucket.Goals as goal
 

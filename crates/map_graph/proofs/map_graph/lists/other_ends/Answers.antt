@@ -1,4 +1,4 @@
-use Rattle.std.proofs.Common.{◌≡◌, suc, ◌-◌, ◌<◌, length, map, drop, sym, ap, ◌∙◌, arith}
+use Rattle.std.proofs.Common.{◌≡◌, suc, ◌-◌, ◌<◌, length, map, drop, ap, ◌∙◌, arith}
 use Rattle.graph_model.specs.Maps.{set_of, add}
 use Rattle.graph_model.specs.ListCalls.{other_end}
 use Rattle.graph_parts.proofs.OrderedMaps.{added}
