@@ -1,0 +1,4 @@
+pub mod State
+pub mod Tied
+pub mod Causes
+pub mod Moves

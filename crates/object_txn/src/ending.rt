@@ -1,0 +1,66 @@
+ghost use Rattle.std.specs.Prelude.{◌≡◌, ◌≢◌, [], None, ◌<◌, ◌≤◌};
+ghost use Rattle.rma_layout.specs.Placement.{Place};
+ghost use Rattle.window_rule.specs.View.{Outside};
+ghost use Rattle.window_rule.specs.Gate.{entered};
+ghost use Rattle.window_rule.specs.Locks.{hold_of};
+ghost use Rattle.window_rule.specs.Trails.{Follows};
+ghost use Rattle.block_pool.specs.Gives.{OnlyBlocks};
+ghost use Rattle.object_store.specs.declared.phase.Phase.TheVariants.{Writing};
+ghost use Rattle.object_txn.specs.State.{gate_of};
+ghost use Rattle.object_txn.specs.Tied.{HasTaken, IsNone, IsTied};
+
+use crate::txn::Txn;
+use block_pool::give;
+use fabric::{Rank, Window};
+use object_moves::leave_all;
+use object_store::Phase;
+use object_words::Law;
+use rma_layout::DPtr;
+
+/// Ends a transaction that has changed no object: leaves its locks and its place in the gate, and gives the blocks back
+/// that it took. It takes no memory.
+pub(crate) fn end_all<L: Law>(window: &Window<L>, rank: &mut Rank<L>, txn: &mut Txn)
+    requires tied { IsTied window.now rank.old txn.old }
+    ensures tied { IsTied window.now rank.new txn.new }
+    ensures ended { IsNone txn.new }
+    ensures seen { rank.new.view.seen ≡ rank.old.view.seen }
+    ensures spares { txn.old.phase ≢ Writing → rank.new.spares ≡ rank.old.spares }
+    ensures follows { Follows rank.old.view rank.new.view }
+{
+    leave_all(window, rank, &mut txn.held);
+    leave_gate(window, rank, txn.phase);
+    give_all(window, rank, &mut txn.taken);
+    txn.end();
+}
+
+/// Leaves the place in the gate of a transaction in this phase, which has nothing detached.
+fn leave_gate<L: Law>(window: &Window<L>, rank: &mut Rank<L>, phase: Phase)
+    requires window { rank.old.window ≡ window.now }
+    requires gate { rank.old.view.gate ≡ gate_of phase }
+    requires clean { rank.old.view.dirty ≡ [] }
+    ensures window { rank.new.window ≡ rank.old.window }
+    ensures spares { rank.new.spares ≡ rank.old.spares }
+    ensures view { rank.new.view ≡ entered Outside rank.old.view }
+    ensures follows { Follows rank.old.view rank.new.view }
+{
+    if phase == Phase::Writing {
+        rank.writer_leave(window);
+    }
+}
+
+/// Gives blocks of the rank's own back that are no spares, once the rank has no lock.
+fn give_all<L: Law>(window: &Window<L>, rank: &mut Rank<L>, taken: &mut Vec<DPtr>)
+    requires window { rank.old.window ≡ window.now }
+    requires taken { HasTaken window.now.shape rank.old.view.private rank.old.spares taken.old.items }
+    requires locks { (object : Place) → hold_of rank.old.view.locks object ≡ None }
+    requires clean { rank.old.view.dirty ≡ [] }
+    ensures window { rank.new.window ≡ rank.old.window }
+    ensures none { taken.new.items ≡ [] }
+    ensures view { OnlyBlocks rank.old.view rank.new.view }
+    ensures spares { taken.old.items ≡ [] → rank.new.spares ≡ rank.old.spares }
+    ensures follows { Follows rank.old.view rank.new.view }
+{
+    while let Some(block) = taken.pop() {
+        give(window, rank, block);
+    }
+}

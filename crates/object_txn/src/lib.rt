@@ -1,0 +1,12 @@
+//! Transactions on objects over a window.
+#![tactic(auto)]
+
+mod ending;
+mod locking;
+mod reading;
+mod refused;
+mod txn;
+mod window_store;
+
+pub use refused::TxnRefused;
+pub use window_store::WindowStore;

@@ -1,0 +1,43 @@
+ghost use Rattle.std.specs.Prelude.{◌≡◌, []};
+ghost use Rattle.object_txn.specs.Tied.{IsNone};
+
+use object_moves::HeldObjects;
+use object_store::{Objects, Phase};
+use rma_layout::DPtr;
+use std::alloc::Global;
+
+/// A transaction over a window: what it has read and written, what it has locked, and the blocks that it took.
+#[derive(Drop)]
+pub struct Txn {
+    pub phase: Phase,
+    pub reads: Objects,
+    pub writes: Objects,
+    pub held: HeldObjects,
+    pub taken: Vec<DPtr>,
+}
+
+impl Txn {
+    /// No transaction. It takes no memory.
+    pub(crate) fn none(alloc: Global) -> Txn
+        ensures { IsNone result }
+    {
+        Txn {
+            phase: Phase::Idle,
+            reads: Objects::new(alloc),
+            writes: Objects::new(alloc),
+            held: HeldObjects::new(alloc),
+            taken: Vec::new(alloc),
+        }
+    }
+
+    /// Ends it, where its locks are left and its blocks given back. It takes no memory.
+    pub(crate) fn end(&mut self)
+        requires held { self.old.held ≡ [] }
+        requires taken { self.old.taken.items ≡ [] }
+        ensures { IsNone self.new }
+    {
+        self.phase = Phase::Idle;
+        self.reads.clear();
+        self.writes.clear();
+    }
+}

@@ -1,0 +1,133 @@
+ghost use Rattle.std.specs.Prelude.{◌≡◌, ◌≢◌, ◌<◌, false, IfErr, IfOk};
+ghost use Rattle.rma_layout.specs.Placement.{IsBlock};
+ghost use Rattle.object_store.specs.declared.phase.Phase.TheVariants.{Idle, Reading, Writing};
+ghost use Rattle.object_store.specs.Sound.{Continues, IsSound, StaysExplained};
+ghost use Rattle.object_store.specs.Calls.{Aborts, Begins, Finishes, ReadsObject};
+ghost use Rattle.object_store.specs.Refusals.{RefusesAccess, RefusesBegin};
+ghost use Rattle.window_rule.specs.Trails.{Follows};
+ghost use Rattle.object_txn.specs.Causes.{Explains};
+ghost use Rattle.object_txn.specs.State.{said_by, window_state};
+ghost use Rattle.object_txn.specs.Tied.{IsFree, IsNone, IsTied};
+
+use crate::ending::end_all;
+use crate::reading::read_at;
+use crate::refused::TxnRefused;
+use crate::txn::Txn;
+use fabric::{Rank, Window};
+use object_store::Phase;
+use object_words::{Law, Words};
+use rma_layout::{DPtr, Geometry};
+use std::alloc::Global;
+
+/// Transactions on the objects of a window, by one of its ranks.
+#[derive(Drop)]
+pub struct WindowStore<'a, L: Law> {
+    alloc: Global,
+    window: &'a Window<L>,
+    rank: &'a mut Rank<L>,
+    txn: Txn,
+    ghost tied: { IsTied window.now rank.now txn },
+}
+
+impl<'a, L: Law> WindowStore<'a, L> {
+    /// The store over a window, for a rank of it that has no lock, no place in the gate and nothing detached or open.
+    pub fn over(alloc: Global, window: &'a Window<L>, rank: &'a mut Rank<L>) -> WindowStore<'a, L>
+        requires window { rank.old.window ≡ window.now }
+        requires free { IsFree rank.old.view }
+        ensures same_reference { result.rank.ghost_name ≡ rank.entry.ghost_name }
+        ensures window { result.window.now ≡ window.now }
+        ensures rank { result.rank.now ≡ rank.old }
+        ensures none { IsNone result.txn }
+    {
+        WindowStore {
+            alloc,
+            window,
+            rank,
+            txn: Txn::none(alloc),
+        }
+    }
+
+    /// The geometry of the objects.
+    pub fn geometry(&self) -> Geometry
+        ensures { result ≡ (window_state self.now.window.now self.now.rank.now self.now.txn).shape }
+    {
+        self.window.geometry()
+    }
+
+    /// Does nothing to the store, and tells what holds at every moment.
+    pub fn stays_sound(&mut self)
+        ensures same { window_state self.new.window.now self.new.rank.now self.new.txn ≡ window_state self.old.window.now self.old.rank.now self.old.txn }
+        ensures sound { IsSound L.fits (window_state self.new.window.now self.new.rank.now self.new.txn) }
+        ensures follows { Follows self.old.rank.now.view self.new.rank.now.view }
+    {
+        self.rank.truths(self.window);
+    }
+
+    /// Begins a transaction, as writing or not. It takes no memory. One that writes enters the gate.
+    pub fn begin(&mut self, writing: bool) -> Result<(), TxnRefused>
+        requires { self.old.txn.phase ≡ Idle }
+        ensures keeps { Continues L.fits (window_state self.old.window.now self.old.rank.now self.old.txn) (window_state self.new.window.now self.new.rank.now self.new.txn) }
+        ensures done { IfOk result (λ _. Begins writing (window_state self.old.window.now self.old.rank.now self.old.txn) (window_state self.new.window.now self.new.rank.now self.new.txn)) }
+        ensures refused { IfErr result (λ why. RefusesBegin writing (window_state self.old.window.now self.old.rank.now self.old.txn) (window_state self.new.window.now self.new.rank.now self.new.txn) (said_by why)) }
+        ensures explained { IfErr result (λ why. Explains self.new.window.now.shape self.old.rank.now.view self.new.rank.now.view why) }
+        ensures follows { Follows self.old.rank.now.view self.new.rank.now.view }
+    {
+        if writing && let Err(word) = self.rank.writer_try(self.window) {
+            self.rank.truths(self.window);
+            return Err(TxnRefused::GateBusy { word });
+        }
+        self.rank.truths(self.window);
+        self.txn.phase = if writing {
+            Phase::Writing
+        } else {
+            Phase::Reading
+        };
+        Ok(())
+    }
+
+    /// The words of an object: the transaction's own last write, else what is committed, under a lock.
+    pub fn read(&mut self, at: DPtr) -> Result<Words, TxnRefused>
+        requires begun { self.old.txn.phase ≢ Idle }
+        requires object { IsBlock (window_state self.old.window.now self.old.rank.now self.old.txn).shape at }
+        ensures keeps { Continues L.fits (window_state self.old.window.now self.old.rank.now self.old.txn) (window_state self.new.window.now self.new.rank.now self.new.txn) }
+        ensures done { IfOk result (λ words. ReadsObject at (window_state self.old.window.now self.old.rank.now self.old.txn) (window_state self.new.window.now self.new.rank.now self.new.txn) words) }
+        ensures refused { IfErr result (λ why. RefusesAccess at (window_state self.old.window.now self.old.rank.now self.old.txn) (window_state self.new.window.now self.new.rank.now self.new.txn) (said_by why)) }
+        ensures explained { IfErr result (λ why. Explains self.new.window.now.shape self.old.rank.now.view self.new.rank.now.view why) }
+        ensures follows { Follows self.old.rank.now.view self.new.rank.now.view }
+    {
+        match read_at(self.window, self.rank, &mut self.txn, self.alloc, at) {
+            Ok(words) => {
+                self.rank.truths(self.window);
+                Ok(words)
+            }
+            Err(why) => {
+                self.abort();
+                Err(why)
+            }
+        }
+    }
+
+    /// Ends a transaction that doesn't write, and answers the place in the history at which all its reads hold.
+    pub fn finish(&mut self) -> u64
+        requires { self.old.txn.phase ≡ Reading }
+        ensures keeps { Continues L.fits (window_state self.old.window.now self.old.rank.now self.old.txn) (window_state self.new.window.now self.new.rank.now self.new.txn) }
+        ensures done { Finishes (window_state self.old.window.now self.old.rank.now self.old.txn) (window_state self.new.window.now self.new.rank.now self.new.txn) result }
+        ensures follows { Follows self.old.rank.now.view self.new.rank.now.view }
+    {
+        let place = self.rank.place(self.window);
+        end_all(self.window, self.rank, &mut self.txn);
+        self.rank.truths(self.window);
+        place
+    }
+
+    /// Ends the transaction and leaves every content as it was.
+    pub fn abort(&mut self)
+        requires { self.old.txn.phase ≢ Idle }
+        ensures keeps { Continues L.fits (window_state self.old.window.now self.old.rank.now self.old.txn) (window_state self.new.window.now self.new.rank.now self.new.txn) }
+        ensures done { Aborts (window_state self.old.window.now self.old.rank.now self.old.txn) (window_state self.new.window.now self.new.rank.now self.new.txn) }
+        ensures follows { Follows self.old.rank.now.view self.new.rank.now.view }
+    {
+        end_all(self.window, self.rank, &mut self.txn);
+        self.rank.truths(self.window);
+    }
+}
