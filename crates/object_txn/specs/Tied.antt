@@ -1,5 +1,5 @@
 -- What ties a transaction to the rank that makes it.
-use Rattle.std.specs.Prelude.{◌≡◌, ◌≢◌, ℕ, ◌<◌, ◌≤◌, ◌⊎◌, Bool, List, [], Option, Some, None}
+use Rattle.std.specs.Prelude.{◌≡◌, ◌≢◌, ℕ, ◌<◌, ◌≤◌, Bool, List, [], Option, Some, None}
 use Rattle.rma_layout.specs.Shape.{Shape}
 use Rattle.rma_layout.specs.Placement.{Place, IsBlock, IsReserved}
 use Rattle.object_words.specs.Contents.{Contents, IsByRisingObject, content_of, words_at}
@@ -30,14 +30,19 @@ pub record HasRead (known : List (Place × Known)) (held : Locks) (reads : Conte
   pub locked : (object : Place) → hold_of held object ≡ None → words_at reads object ≡ None
   pub in_order : IsByRisingObject reads
 
--- what was written is marked. It is reserved, was made by the transaction, or was read and found not
--- empty
+-- the transaction may write an object that is reserved, that it made, or that it has read and found
+-- not empty
+abbrev pub MayBeWritten : Shape → Contents → List Place → Place → Type 0
+MayBeWritten shape reads taken object = ¬ IsReserved shape object.block → times object taken ≡ 0
+    → content_of reads object ≢ []
+
+-- what was written is marked, and may be written
 pub record HasWritten (shape : Shape) (held : Locks) (reads writes : Contents)
     (taken : List Place) : Type 0 where
   pub marked : (object : Place) (words : List ℕ) → words_at writes object ≡ Some words
       → hold_of held object ≡ Some Marked
   pub may : (object : Place) (words : List ℕ) → words_at writes object ≡ Some words
-      → IsReserved shape object.block ⊎ (0 < times object taken) ⊎ (content_of reads object ≢ [])
+      → MayBeWritten shape reads taken object
   pub in_order : IsByRisingObject writes
 
 -- the blocks that were taken are the rank's own and no spares, each once

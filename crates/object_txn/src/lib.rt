@@ -3,10 +3,12 @@
 
 mod ending;
 mod locking;
+mod making;
 mod reading;
 mod refused;
 mod txn;
 mod window_store;
+mod writing;
 
 pub use refused::TxnRefused;
 pub use window_store::WindowStore;

@@ -1,0 +1,74 @@
+-- What is left where a transaction ends.
+use Rattle.std.proofs.Common.{◌≡◌, ◌≢◌, ℕ, ◌+◌, ◌<◌, ◌≤◌, List, [], ◌∷◌, ◌++◌, length, ◌⊎◌, inl, inr, refl, sym, ap, ◌∙◌, subst, arith, length-append, None}
+use Rattle.rma_layout.specs.Shape.{Shape}
+use Rattle.rma_layout.specs.Placement.{Place, same_place}
+use Rattle.object_words.specs.Blocks.{one_if}
+use Rattle.window_rule.specs.View.{View, OwnBlock}
+use Rattle.window_rule.specs.Locks.{hold_of}
+use Rattle.window_rule.specs.Partition.{times}
+use Rattle.window_rule.specs.Spares.{SpareEnds}
+use Rattle.window_rule.proofs.JoinSteps.{times-append}
+use Rattle.window_rule.proofs.LockLemmas.{same_place-refl}
+use Rattle.fabric.specs.Window.{RankModel}
+use Rattle.block_pool.specs.Gives.{Frees, IsForUse, Keeps, MayGive, OnlyBlocks}
+use Rattle.object_txn.specs.Tied.{HasTaken}
+
+-- the last of some blocks, and the others
+module _ (items more : List Place) (block : Place) (is : items ≡ more ++ block ∷ []) where
+  counted : (b : Place) → times b items ≡ times b more + (one_if (same_place block b) + 0)
+  counted b = ap (times b) is ∙ times-append b more (block ∷ [])
+
+  pub last_there : 0 < times block items
+  last_there = let here : one_if (same_place block block) ≡ 1 = ap one_if (same_place-refl block) in omega (arith, counted block, here)
+
+  pub rest_there : (b : Place) → 0 < times b more → 0 < times b items
+  rest_there b h = omega (arith, counted b, h)
+
+  -- the last isn't among the others
+  pub rest_differs : (b : Place) → times b items ≤ 1 → 0 < times b more → b ≢ block
+  rest_differs b once h same =
+      let here : one_if (same_place block b) ≡ 1 = ap (λ p. one_if (same_place block p)) same ∙ ap one_if (same_place-refl block) in
+      omega (arith, counted b, here, once, h)
+
+  pub rest_once : (b : Place) → times b items ≤ 1 → times b more ≤ 1
+  rest_once b once = omega (arith, counted b, once)
+
+  pub fewer : length more + 1 ≡ length items
+  fewer = sym (ap length is ∙ length-append more (block ∷ []))
+
+module _ {N : Type 0} where
+  pub given_view : (block : Place) (before after : RankModel N) → Frees block before after ⊎ Keeps block before after
+      → OnlyBlocks before.view after.view
+  given_view block before after (inl frees) = frees.view
+  given_view block before after (inr keeps) = keeps.view
+
+  pub blocks-then : (first before after : View N) → OnlyBlocks first before → OnlyBlocks before after → OnlyBlocks first after
+  blocks-then first before after one two = two ∙ ap (λ (v : View N). record v {
+    private = after.private;
+    notes = after.notes;
+    bounds = after.bounds;
+    misses = after.misses;
+    looks = after.looks;
+  }) one
+
+  -- the blocks that are left to give are for use still
+  pub taken_less : (shape : Shape) (before after : RankModel N) (items more : List Place) (block : Place) → items ≡ more ++ block ∷ []
+      → ((other : Place) → other ≢ block → IsForUse shape before other → IsForUse shape after other)
+      → HasTaken shape before.view.private before.spares items → HasTaken shape after.view.private after.spares more
+  taken_less shape before after items more block is stay taken = record {
+    own = λ b h. (still b h).own;
+    no_spare = λ b h. (still b h).no_spare;
+    blocks = λ b h. taken.blocks b (rest_there items more block is b h);
+    once = λ b. rest_once items more block is b (taken.once b);
+  }
+    where
+      still : (b : Place) → 0 < times b more → IsForUse shape after b
+      still b h =
+          let there = rest_there items more block is b h in
+          stay b (rest_differs items more block is b (taken.once b) h) (record { own = taken.own b there; no_spare = taken.no_spare b there })
+
+  pub may_give : (shape : Shape) (rank : RankModel N) (items more : List Place) (block : Place) → items ≡ more ++ block ∷ []
+      → HasTaken shape rank.view.private rank.spares items → hold_of rank.view.locks block ≡ None → rank.view.dirty ≡ [] → MayGive shape rank block
+  may_give shape rank items more block is taken left clean =
+      let there = last_there items more block is in
+      record { own = taken.own block there; no_spare = taken.no_spare block there; left = left; clean = clean }

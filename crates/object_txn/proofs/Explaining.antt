@@ -1,0 +1,112 @@
+-- A refusal stays explained.
+use Rattle.std.proofs.Common.{◌≡◌, ℕ, ◌+◌, ◌<◌, ◌≤◌, ◌==◌, cond, List, [], ◌∷◌, ◌++◌, refl, sym, ap, ◌∙◌, subst, arith, append_assoc}
+use Rattle.std.specs.List.{Contains, count_by}
+use Rattle.std.proofs.lemmas.List.Elements.{Contains-append_left, Contains-append_right}
+use Rattle.std.proofs.lemmas.List.Sums.{sum_by-append}
+use mathlib.Core.List.{IsPrefix}
+use Rattle.rma_layout.specs.Shape.{Shape}
+use Rattle.lock_words.specs.declared.want.Want.{Want}
+use Rattle.lock_words.specs.declared.want.Want.TheVariants.{Writer}
+use Rattle.window_rule.specs.View.{View, Refusal, Miss, Look, Target, OfObject, OfGate}
+use Rattle.window_rule.specs.RightsHold.{IsAlone, right_count}
+use Rattle.window_rule.specs.Trails.{Follows}
+use Rattle.object_store.specs.Sound.{StaysExplained}
+use Rattle.object_txn.specs.declared.refused.TxnRefused.{TxnRefused}
+use Rattle.object_txn.specs.declared.refused.TxnRefused.TheVariants.{Busy, GateBusy, Empty, PoolBusy, Worn, NoMemory}
+use Rattle.object_txn.specs.Causes.{Explains, Gained, HasLooked, HasMissed, WasRefused}
+
+gained_later : {X : Type 0} (before mid now : List X) → Gained before mid → IsPrefix mid now → Gained before now
+gained_later before mid now g p =
+    record { more = g.more ++ p.0; is = sym (append_assoc before g.more p.0) ∙ (ap (λ l. l ++ p.0) g.is ∙ p.1) }
+
+gained_earlier : {X : Type 0} (before mid now : List X) → IsPrefix before mid → Gained mid now → Gained before now
+gained_earlier before mid now p g =
+    record { more = p.0 ++ g.more; is = sym (append_assoc before p.0 g.more) ∙ (ap (λ l. l ++ g.more) p.1 ∙ g.is) }
+
+module _ (rank : ℕ) where
+  abbrev missed : List Miss → ℕ
+  missed misses = count_by (λ (miss : Miss). miss.rank == rank) misses
+
+  abbrev one : Miss → ℕ
+  one miss = cond (miss.rank == rank) 1 0
+
+  missed_more : (xs ys : List Miss) → missed xs ≤ missed (xs ++ ys)
+  missed_more xs ys = omega (arith, sum_by-append one xs ys)
+
+  missed_behind : (xs ys : List Miss) → missed ys ≤ missed (xs ++ ys)
+  missed_behind xs ys = omega (arith, sum_by-append one xs ys)
+
+module _ {N : Type 0} (shape : Shape) where
+  not_alone_before : (before after : View N) → Follows before after → ¬ IsAlone shape after → ¬ IsAlone shape before
+  not_alone_before before after follows not alone =
+      not (λ rank h. subst (λ (rights : List ℕ). 0 < right_count rank rights) (sym follows.rights) (alone rank h))
+
+  refused_later : (first mid last : View N) (target : Target) (want : Want) (word : ℕ) → Follows mid last
+      → WasRefused shape target want word first mid → WasRefused shape target want word first last
+  refused_later first mid last target want word follows was = record {
+    gained = gained_later first.refusals mid.refusals last.refusals was.gained follows.refusals;
+    this = Contains-append_left was.gained.more follows.refusals.0 _ was.this;
+    conflicts = was.conflicts;
+    not_alone = was.not_alone;
+  }
+
+  refused_earlier : (first mid last : View N) (target : Target) (want : Want) (word : ℕ) → Follows first mid
+      → WasRefused shape target want word mid last → WasRefused shape target want word first last
+  refused_earlier first mid last target want word follows was = record {
+    gained = gained_earlier first.refusals mid.refusals last.refusals follows.refusals was.gained;
+    this = Contains-append_right follows.refusals.0 was.gained.more _ was.this;
+    conflicts = was.conflicts;
+    not_alone = not_alone_before first mid follows was.not_alone;
+  }
+
+  looked_later : (first mid last : View N) (rank head : ℕ) → Follows mid last → HasLooked rank head first mid → HasLooked rank head first last
+  looked_later first mid last rank head follows was = record {
+    gained = gained_later first.looks mid.looks last.looks was.gained follows.looks;
+    own_blocks = was.own_blocks;
+    this = Contains-append_left was.gained.more follows.looks.0 _ was.this;
+  }
+
+  looked_earlier : (first mid last : View N) (rank head : ℕ) → Follows first mid → HasLooked rank head mid last → HasLooked rank head first last
+  looked_earlier first mid last rank head follows was = record {
+    gained = gained_earlier first.looks mid.looks last.looks follows.looks was.gained;
+    own_blocks = was.own_blocks;
+    this = Contains-append_right follows.looks.0 was.gained.more _ was.this;
+  }
+
+  missed_later : (first mid last : View N) (rank loaded seen : ℕ) → Follows mid last → HasMissed shape rank loaded seen first mid → HasMissed shape rank loaded seen first last
+  missed_later first mid last rank loaded seen follows was = record {
+    gained = gained_later first.misses mid.misses last.misses was.gained follows.misses;
+    this = Contains-append_left was.gained.more follows.misses.0 _ was.this;
+    many = omega (arith, was.many, missed_more rank was.gained.more follows.misses.0);
+    not_alone = was.not_alone;
+  }
+
+  missed_earlier : (first mid last : View N) (rank loaded seen : ℕ) → Follows first mid → HasMissed shape rank loaded seen mid last → HasMissed shape rank loaded seen first last
+  missed_earlier first mid last rank loaded seen follows was = record {
+    gained = gained_earlier first.misses mid.misses last.misses follows.misses was.gained;
+    this = Contains-append_right follows.misses.0 was.gained.more _ was.this;
+    many = omega (arith, was.many, missed_behind rank follows.misses.0 was.gained.more);
+    not_alone = not_alone_before first mid follows was.not_alone;
+  }
+
+  pub explains_later : (first mid last : View N) (why : TxnRefused) → Follows mid last → Explains shape first mid why → Explains shape first last why
+  explains_later first mid last (Busy object want word) follows was = refused_later first mid last (OfObject object) want word follows was
+  explains_later first mid last (GateBusy word) follows was = refused_later first mid last OfGate Writer word follows was
+  explains_later first mid last (Empty rank head) follows was = (looked_later first mid last rank head follows was.0, was.1)
+  explains_later first mid last (PoolBusy rank loaded seen) follows was = missed_later first mid last rank loaded seen follows was
+  explains_later first mid last (Worn rank head) follows was = (looked_later first mid last rank head follows was.0, was.1)
+  explains_later first mid last NoMemory follows was = tt
+
+  pub explains_earlier : (first mid last : View N) (why : TxnRefused) → Follows first mid → Explains shape mid last why → Explains shape first last why
+  explains_earlier first mid last (Busy object want word) follows was = refused_earlier first mid last (OfObject object) want word follows was
+  explains_earlier first mid last (GateBusy word) follows was = refused_earlier first mid last OfGate Writer word follows was
+  explains_earlier first mid last (Empty rank head) follows was = (looked_earlier first mid last rank head follows was.0, was.1)
+  explains_earlier first mid last (PoolBusy rank loaded seen) follows was = missed_earlier first mid last rank loaded seen follows was
+  explains_earlier first mid last (Worn rank head) follows was = (looked_earlier first mid last rank head follows was.0, was.1)
+  explains_earlier first mid last NoMemory follows was = tt
+
+  pub explained_still : (before after : View N) → Follows before after → StaysExplained {S = View N} {R = TxnRefused} (Explains shape) before after
+  explained_still before after follows = record {
+    later = λ first why was. explains_later first before after why follows was;
+    earlier = λ last why was. explains_earlier before after last why follows was;
+  }

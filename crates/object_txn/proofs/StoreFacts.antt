@@ -1,0 +1,140 @@
+-- A window under a rank does what a store does.
+use Rattle.std.proofs.Common.{◌≡◌, ◌≢◌, ℕ, ◌+◌, ◌<◌, Bool, true, false, cond, eqb, zero, suc, List, [], ◌∷◌, length, ◌⊎◌, inl, inr, refl, sym, ap, ◌∙◌, subst, arith, Option, Some, None}
+use Rattle.std.specs.Prelude.{is_some, IsSome}
+use Rattle.std.specs.Option.{unwrap_or}
+use Rattle.std.specs.List.{range_with_len, slice_index_or, Contains}
+use Rattle.std.proofs.lemmas.Bool.Decides.{nat_tests}
+use Rattle.std.proofs.lemmas.List.Elements.{All-from_recursion}
+use Rattle.rma_layout.specs.Shape.{Shape}
+use Rattle.rma_layout.specs.Placement.{Place}
+use Rattle.object_words.specs.Contents.{Agrees, content_of, words_at}
+use Rattle.object_words.specs.Entries.{Entry, store_after}
+use Rattle.window_rule.specs.View.{View, Known, Chronicle}
+use Rattle.window_rule.specs.Known.{known_of}
+use Rattle.window_rule.specs.RightsHold.{right_count}
+use Rattle.window_rule.specs.NotesHold.{StandsAlone}
+use Rattle.window_rule.specs.Trails.{Follows}
+use Rattle.window_rule.specs.Truths.{IsTrueView}
+use Rattle.window_rule.proofs.SplitSteps.{count-cons}
+use Rattle.window_rule.proofs.Trails.{prefix-refl}
+use Rattle.window_rule.proofs.WholeOwn.{own_is_all}
+use Rattle.fabric.specs.Window.{WindowModel, RankModel}
+use Rattle.object_store.specs.declared.phase.Phase.TheVariants.{Idle, Reading, Writing}
+use Rattle.object_store.specs.State.{StoreState, HasEveryRight, committed}
+use Rattle.object_store.specs.Sound.{Continues, IsSound, KeepsCommits, StaysBegun}
+use Rattle.object_store.specs.Calls.{Aborts, Begins, Finishes, ReadsObject}
+use Rattle.object_txn.specs.declared.txn.Txn.{Txn}
+use Rattle.object_txn.specs.Moves.{Reads}
+use Rattle.object_txn.specs.State.{has_no_spare, window_state}
+use Rattle.object_txn.specs.Tied.{IsNone, IsTied, words_in}
+
+right_at : (rank : ℕ) (rights : List ℕ) (k : ℕ) → k < length rights → slice_index_or rights k rank ≡ rank → 0 < right_count rank rights
+right_at rank [] k h e = absurd (omega (arith, h))
+right_at rank (right ∷ more) zero h e = omega (arith, count-cons rank right more, one_here)
+  where
+    one_here : cond (eqb right rank) 1 0 ≡ 1
+    one_here = let same : right ≡ rank = e in grind (arith, nat_tests)
+right_at rank (right ∷ more) (suc k) h e = omega (arith, count-cons rank right more, right_at rank more k (omega (arith, h)) e)
+
+module _ {N : Type 0} (fits : Shape → Entry N → Type 0) (window : WindowModel) where
+  known_agrees : (view : View N) → IsTrueView fits window.shape view → (object : Place) (words : List ℕ) (known : Option Known)
+      → known_of view.known object ≡ known → words_in known ≡ Some words → content_of (store_after view.seen) object ≡ words
+  known_agrees view is object words None e h = absurd (cc h)
+  known_agrees view is object words (Some known) e h = (is.knows object known e).1 ∙ some_is known.content words h
+    where
+      some_is : (one other : List ℕ) → Some one ≡ Some other → one ≡ other
+      some_is one other e = cc e
+
+  pub tied_agrees : (rank : RankModel N) (txn : Txn) → IsTrueView fits window.shape rank.view → IsTied window rank txn
+      → Agrees txn.reads (store_after rank.view.seen)
+  tied_agrees rank txn is tied object words e =
+      known_agrees rank.view is object words (known_of rank.view.known object) refl (tied.reads.known_is object words e)
+
+  pub sound : (rank : RankModel N) (txn : Txn) → IsTrueView fits window.shape rank.view → IsTied window rank txn
+      → IsSound fits (window_state window rank txn)
+  sound rank txn is tied = record {
+    legal = is.legal;
+    fit = All-from_recursion rank.view.seen is.fitting;
+    agrees = tied_agrees rank txn is tied;
+    reads_in_order = tied.reads.in_order;
+    writes_in_order = tied.writes.in_order;
+    idle_reads = tied.phase.reads;
+    idle_writes = tied.phase.writes;
+    own = λ every. own_is_all window.shape rank.view.seen
+        (record { rights = rank.view.rights; seen = rank.view.seen; own = rank.view.own })
+        (λ right h. let has = every right h in right_at right rank.view.rights has.0 has.1 has.2)
+        is.ranked
+        (record { begins = prefix-refl rank.view.seen; own = is.own; rest = tt });
+  }
+
+  module _ (before after : RankModel N) (old new : Txn) (follows : Follows before.view after.view) where
+    pub continues : IsTrueView fits window.shape after.view → IsTied window after new → (old.phase ≢ Writing → after.spares ≡ before.spares)
+        → Continues fits (window_state window before old) (window_state window after new)
+    continues is tied spares = record {
+      shape = refl;
+      base = ap (λ rights. record { table = window.id; rights = rights }) follows.rights;
+      counts_blocks = refl;
+      seen = follows.seen;
+      changes = prefix-refl [];
+      clean = λ which was. elim which [
+        | inl some ↦ absurd some
+        | inr quiet ↦ ap has_no_spare (spares quiet) ∙ was
+      ];
+      takes = follows.takes;
+      lock_free = λ _ h. absurd (omega (arith, h));
+      sound = sound after new is tied;
+    }
+
+    keeps_commits : KeepsCommits (window_state window before old) (window_state window after new)
+    keeps_commits = record { own = follows.own; allowance = follows.allowance; seen = λ some. absurd some }
+
+    pub aborts : IsNone new → Aborts (window_state window before old) (window_state window after new)
+    aborts none = record { commits = keeps_commits; ended = record { phase = none.phase; reads = none.reads; writes = none.writes } }
+
+    pub finishes : (place : ℕ) → IsNone new → length after.view.seen ≡ place → Agrees old.reads (store_after after.view.seen)
+        → Finishes (window_state window before old) (window_state window after new) place
+    finishes place none whole agrees = record {
+      whole = whole;
+      agrees = agrees;
+      commits = keeps_commits;
+      ended = record { phase = none.phase; reads = none.reads; writes = none.writes };
+    }
+
+    pub begins : (writing : Bool) → new.phase ≡ cond writing Writing Reading → new.reads ≡ [] → new.writes ≡ []
+        → Begins writing (window_state window before old) (window_state window after new)
+    begins writing phase reads writes = record {
+      phase = phase;
+      read_nothing = reads;
+      wrote_nothing = writes;
+      commits = keeps_commits;
+      most = refl;
+      strict = refl;
+      tries = refl;
+    }
+
+    pub reads_object : (object : Place) (words : List ℕ) → IsTrueView fits window.shape after.view → Reads object after.view old new words
+        → new.phase ≡ old.phase → new.writes ≡ old.writes
+        → ReadsObject object (window_state window before old) (window_state window after new) words
+    reads_object object words is did phase writes = record {
+      found = found_cases (words_at old.writes object) did.found;
+      reads = did.reads;
+      writes = writes;
+      stays = record {
+        shape = refl;
+        phase = phase;
+        commits = keeps_commits;
+        most = refl;
+        strict = refl;
+        tries = refl;
+        changes = refl;
+        reads = did.stay;
+      };
+    }
+      where
+        found_cases : (own : Option (List ℕ)) → Some words ≡ cond (is_some own) own (words_in (known_of after.view.known object))
+            → words ≡ unwrap_or own (content_of (store_after after.view.seen) object)
+        found_cases None e = sym (known_agrees after.view is object words (known_of after.view.known object) refl (sym e))
+        found_cases (Some own) e = some_of words own e
+          where
+            some_of : (one other : List ℕ) → Some one ≡ Some other → one ≡ other
+            some_of one other e = cc e

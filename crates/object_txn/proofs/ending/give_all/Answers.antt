@@ -1,0 +1,34 @@
+use Rattle.std.proofs.Common.{◌≡◌, ◌≢◌, ◌<◌, ◌∷◌, ◌++◌, [], length, ap, sym, ◌∙◌, arith}
+use Rattle.window_rule.specs.View.{View}
+use Rattle.window_rule.specs.Locks.{hold_of}
+use Rattle.window_rule.proofs.Trails.{follows_trans}
+use Rattle.object_txn.proofs.EndingFacts.{blocks-then, fewer, given_view, last_there, may_give, taken_less}
+use Rattle.object_txn.proofs.ending.give_all.Goals as goal
+
+pub give-requires-clause-block : goal.give-requires-clause-block
+give-requires-clause-block g c =
+    c.loop-block.invariant.taken.blocks _ (last_there c.loop-block.taken.items c.pop.new.self.items _ c.in-Some.ensures.items)
+
+pub give-requires-clause-may : goal.give-requires-clause-may
+give-requires-clause-may g c =
+    let old = c.loop-block.invariant in
+    may_give c.args.window.now.shape c.loop-block.rank c.loop-block.taken.items c.pop.new.self.items _ c.in-Some.ensures.items
+    old.taken (old.locks _) old.clean
+
+pub loop-block-preserved : goal.loop-block-preserved
+loop-block-preserved g c =
+    let old = c.loop-block.invariant in
+    let given = given_view _ c.loop-block.rank c.give.new.rank c.give.ensures.given in record {
+      window = c.give.ensures.window ∙ old.window;
+      taken = taken_less c.args.window.now.shape c.loop-block.rank c.give.new.rank c.loop-block.taken.items c.pop.new.self.items _ c.in-Some.ensures.items
+          c.give.ensures.stay old.taken;
+      locks = λ object. ap (λ (v : View g.row.L-Note.Denot). hold_of v.locks object) given ∙ old.locks object;
+      clean = ap (λ (v : View g.row.L-Note.Denot). v.dirty) given ∙ old.clean;
+      view = blocks-then c.args.rank.now.view c.loop-block.rank.view c.give.new.rank.view old.view given;
+      none = λ none. absurd (omega (arith, ap length (old.none none), fewer c.loop-block.taken.items c.pop.new.self.items _ c.in-Some.ensures.items));
+      spares = λ none. absurd (omega (arith, ap length (old.none none), fewer c.loop-block.taken.items c.pop.new.self.items _ c.in-Some.ensures.items));
+      follows = follows_trans c.args.rank.now.view c.loop-block.rank.view c.give.new.rank.view old.follows c.give.ensures.follows;
+    }
+
+pub loop-block-smaller : goal.loop-block-smaller
+loop-block-smaller g c = omega (arith, fewer c.loop-block.taken.items c.pop.new.self.items _ c.in-Some.ensures.items)

@@ -1,0 +1,22 @@
+use Rattle.std.proofs.Common.{rules, ◌≡◌, refl, sym, ap, ◌∙◌, subst}
+use Rattle.window_rule.specs.View.{View, OfGate}
+use Rattle.window_rule.specs.Trails.{Follows}
+use Rattle.window_rule.specs.Truths.{IsTrueView}
+use Rattle.object_txn.specs.Tied.{IsTied}
+use Rattle.object_txn.proofs.StoreFacts.{continues, sound}
+use Rattle.object_txn.proofs.Explaining.{explains_later}
+use Rattle.object_txn.proofs.window_store.WindowStore.begin.Goals as goal
+
+pub returns-clause-keeps : goal.returns-clause-keeps
+returns-clause-keeps g c =
+    let self = c.args.self.now in
+    let follows : Follows self.rank.now.view c.truths.new.self.view = search rules in
+    let tied : IsTied self.window.now c.truths.new.self self.txn = search rules in
+    continues g.L.Law.fits self.window.now self.rank.now c.truths.new.self self.txn self.txn follows c.truths.ensures.truths tied
+    (λ _. c.truths.ensures.spares ∙ c.writer_try.ensures.spares)
+
+pub returns-clause-explained : goal.returns-clause-explained
+returns-clause-explained g c = ?
+
+pub returns-2-clause-keeps : goal.returns-2-clause-keeps
+returns-2-clause-keeps g c = ?

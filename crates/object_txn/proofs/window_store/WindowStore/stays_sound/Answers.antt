@@ -1,0 +1,14 @@
+use Rattle.std.proofs.Common.{rules, ◌≡◌, refl, sym, ap, ◌∙◌, subst}
+use Rattle.window_rule.specs.View.{View, OfGate}
+use Rattle.window_rule.specs.Trails.{Follows}
+use Rattle.window_rule.specs.Truths.{IsTrueView}
+use Rattle.object_txn.specs.Tied.{IsTied}
+use Rattle.object_txn.proofs.StoreFacts.{continues, sound}
+use Rattle.object_txn.proofs.Explaining.{explains_later}
+use Rattle.object_txn.proofs.window_store.WindowStore.stays_sound.Goals as goal
+
+pub returns-clause-sound : goal.returns-clause-sound
+returns-clause-sound g c =
+    let self = c.args.self.now in
+    let tied : IsTied self.window.now c.truths.new.self self.txn = search rules in
+    sound g.L.Law.fits self.window.now c.truths.new.self self.txn c.truths.ensures.truths tied

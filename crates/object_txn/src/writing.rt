@@ -1,0 +1,43 @@
+ghost use Rattle.std.specs.Prelude.{◌≡◌, ◌≢◌, ◌⊎◌, [], Some, IfErr, OnOk};
+ghost use Rattle.rma_layout.specs.Placement.{IsBlock, IsReserved};
+ghost use Rattle.object_words.specs.Contents.{content_of, with_words, words_at};
+ghost use Rattle.window_rule.specs.Partition.{times};
+ghost use Rattle.window_rule.specs.Trails.{Follows};
+ghost use Rattle.object_store.specs.declared.phase.Phase.TheVariants.{Writing};
+ghost use Rattle.object_store.specs.State.{names_nothing, names_object};
+ghost use Rattle.object_txn.specs.State.{named_by};
+ghost use Rattle.object_txn.specs.Causes.{Explains};
+ghost use Rattle.object_txn.specs.Tied.{IsTied, MayBeWritten};
+
+use crate::locking::mark;
+use crate::refused::TxnRefused;
+use crate::txn::Txn;
+use fabric::{Rank, Window};
+use object_words::{Law, Words};
+use rma_layout::DPtr;
+
+/// Marks an object and notes its new words.
+pub(crate) fn write_at<L: Law>(
+    window: &Window<L>,
+    rank: &mut Rank<L>,
+    txn: &mut Txn,
+    at: DPtr,
+    words: Words,
+) -> Result<(), TxnRefused>
+    requires object { IsBlock window.now.shape at }
+    requires begun { txn.old.phase ≡ Writing }
+    requires may { MayBeWritten window.now.shape txn.old.reads txn.old.taken.items at }
+    requires tied { IsTied window.now rank.old txn.old }
+    ensures tied { IsTied window.now rank.new txn.new }
+    ensures phase { txn.new.phase ≡ txn.old.phase }
+    ensures reads { txn.new.reads ≡ txn.old.reads }
+    ensures writes { OnOk result (txn.new.writes ≡ with_words txn.old.writes at words) }
+    ensures spares { rank.new.spares ≡ rank.old.spares }
+    ensures names { IfErr result (λ why. (named_by why ≡ names_nothing) ⊎ (named_by why ≡ names_object at)) }
+    ensures refused { IfErr result (λ why. Explains window.now.shape rank.old.view rank.new.view why) }
+    ensures follows { Follows rank.old.view rank.new.view }
+{
+    mark(window, rank, &mut txn.held, at)?;
+    txn.writes.put(at, words)?;
+    Ok(())
+}
