@@ -15,11 +15,11 @@ use Rattle.object_txn.specs.declared.refused.TxnRefused.{TxnRefused}
 use Rattle.object_txn.specs.declared.refused.TxnRefused.TheVariants.{Busy, GateBusy, Empty, PoolBusy, Worn, NoMemory}
 use Rattle.object_txn.specs.Causes.{Explains, Gained, HasLooked, HasMissed, WasRefused}
 
-gained_later : {X : Type 0} (before mid now : List X) → Gained before mid → IsPrefix mid now → Gained before now
+abbrev gained_later : {X : Type 0} (before mid now : List X) → Gained before mid → IsPrefix mid now → Gained before now
 gained_later before mid now g p =
     record { more = g.more ++ p.0; is = sym (append_assoc before g.more p.0) ∙ (ap (λ l. l ++ p.0) g.is ∙ p.1) }
 
-gained_earlier : {X : Type 0} (before mid now : List X) → IsPrefix before mid → Gained mid now → Gained before now
+abbrev gained_earlier : {X : Type 0} (before mid now : List X) → IsPrefix before mid → Gained mid now → Gained before now
 gained_earlier before mid now p g =
     record { more = p.0 ++ g.more; is = sym (append_assoc before p.0 g.more) ∙ (ap (λ l. l ++ g.more) p.1 ∙ g.is) }
 
@@ -92,7 +92,7 @@ module _ {N : Type 0} (shape : Shape) where
   pub explains_later : (first mid last : View N) (why : TxnRefused) → Follows mid last → Explains shape first mid why → Explains shape first last why
   explains_later first mid last (Busy object want word) follows was = refused_later first mid last (OfObject object) want word follows was
   explains_later first mid last (GateBusy word) follows was = refused_later first mid last OfGate Writer word follows was
-  explains_later first mid last (Empty rank head) follows was = (looked_later first mid last rank head follows was.0, was.1)
+  explains_later first mid last (Empty rank head) follows was = (looked_later first mid last rank head follows was.0, was.1, was.2)
   explains_later first mid last (PoolBusy rank loaded seen) follows was = missed_later first mid last rank loaded seen follows was
   explains_later first mid last (Worn rank head) follows was = (looked_later first mid last rank head follows was.0, was.1)
   explains_later first mid last NoMemory follows was = tt
@@ -100,7 +100,7 @@ module _ {N : Type 0} (shape : Shape) where
   pub explains_earlier : (first mid last : View N) (why : TxnRefused) → Follows first mid → Explains shape mid last why → Explains shape first last why
   explains_earlier first mid last (Busy object want word) follows was = refused_earlier first mid last (OfObject object) want word follows was
   explains_earlier first mid last (GateBusy word) follows was = refused_earlier first mid last OfGate Writer word follows was
-  explains_earlier first mid last (Empty rank head) follows was = (looked_earlier first mid last rank head follows was.0, was.1)
+  explains_earlier first mid last (Empty rank head) follows was = (looked_earlier first mid last rank head follows was.0, was.1, was.2)
   explains_earlier first mid last (PoolBusy rank loaded seen) follows was = missed_earlier first mid last rank loaded seen follows was
   explains_earlier first mid last (Worn rank head) follows was = (looked_earlier first mid last rank head follows was.0, was.1)
   explains_earlier first mid last NoMemory follows was = tt

@@ -1,5 +1,5 @@
 -- A window under a rank does what a store does.
-use Rattle.std.proofs.Common.{◌≡◌, ◌≢◌, ℕ, ◌+◌, ◌<◌, Bool, true, false, cond, eqb, zero, suc, List, [], ◌∷◌, length, ◌⊎◌, inl, inr, refl, sym, ap, ◌∙◌, subst, arith, Option, Some, None}
+use Rattle.std.proofs.Common.{◌≡◌, ◌≢◌, ℕ, ◌+◌, ◌<◌, Bool, true, false, cond, eqb, zero, suc, List, [], ◌∷◌, ◌++◌, append-nil, length, ◌⊎◌, inl, inr, refl, sym, ap, ◌∙◌, subst, arith, Option, Some, None}
 use Rattle.std.specs.Prelude.{is_some, IsSome}
 use Rattle.std.specs.Option.{unwrap_or}
 use Rattle.std.specs.List.{range_with_len, slice_index_or, Contains}
@@ -7,8 +7,10 @@ use Rattle.std.proofs.lemmas.Bool.Decides.{nat_tests}
 use Rattle.std.proofs.lemmas.List.Elements.{All-from_recursion}
 use Rattle.rma_layout.specs.Shape.{Shape}
 use Rattle.rma_layout.specs.Placement.{Place}
-use Rattle.object_words.specs.Contents.{Agrees, content_of, words_at}
+use Rattle.object_words.specs.Contents.{Agrees, Contents, content_of, with_words, words_at}
 use Rattle.object_words.specs.Entries.{Entry, store_after}
+use Rattle.object_words.proofs.Places.{words_at_here}
+use Rattle.window_rule.proofs.LockLemmas.{place_cases}
 use Rattle.window_rule.specs.View.{View, Known, Chronicle}
 use Rattle.window_rule.specs.Known.{known_of}
 use Rattle.window_rule.specs.RightsHold.{right_count}
@@ -22,17 +24,18 @@ use Rattle.fabric.specs.Window.{WindowModel, RankModel}
 use Rattle.object_store.specs.declared.phase.Phase.TheVariants.{Idle, Reading, Writing}
 use Rattle.object_store.specs.State.{StoreState, HasEveryRight, committed}
 use Rattle.object_store.specs.Sound.{Continues, IsSound, KeepsCommits, StaysBegun}
-use Rattle.object_store.specs.Calls.{Aborts, Begins, Finishes, ReadsObject}
+use Rattle.object_store.specs.Calls.{Aborts, Begins, Finishes, MakesObject, MayWrite, ReadsObject, WritesObject}
 use Rattle.object_txn.specs.declared.txn.Txn.{Txn}
-use Rattle.object_txn.specs.Moves.{Reads}
+use Rattle.object_txn.specs.Moves.{Makes, Reads}
 use Rattle.object_txn.specs.State.{has_no_spare, window_state}
-use Rattle.object_txn.specs.Tied.{IsNone, IsTied, words_in}
+use Rattle.object_txn.specs.Tied.{IsNone, IsTied, MayBeWritten, words_in}
+use Rattle.object_txn.proofs.Maps.{words_at_other}
 
 right_at : (rank : ℕ) (rights : List ℕ) (k : ℕ) → k < length rights → slice_index_or rights k rank ≡ rank → 0 < right_count rank rights
 right_at rank [] k h e = absurd (omega (arith, h))
 right_at rank (right ∷ more) zero h e = omega (arith, count-cons rank right more, one_here)
   where
-    one_here : cond (eqb right rank) 1 0 ≡ 1
+    one_here : ◌≡◌ {A = ℕ} (cond (eqb right rank) 1 0) 1
     one_here = let same : right ≡ rank = e in grind (arith, nat_tests)
 right_at rank (right ∷ more) (suc k) h e = omega (arith, count-cons rank right more, right_at rank more k (omega (arith, h)) e)
 
@@ -54,7 +57,7 @@ module _ {N : Type 0} (fits : Shape → Entry N → Type 0) (window : WindowMode
       → IsSound fits (window_state window rank txn)
   sound rank txn is tied = record {
     legal = is.legal;
-    fit = All-from_recursion rank.view.seen is.fitting;
+    fit = All-from_recursion (fits window.shape) rank.view.seen is.fitting;
     agrees = tied_agrees rank txn is tied;
     reads_in_order = tied.reads.in_order;
     writes_in_order = tied.writes.in_order;
@@ -64,7 +67,7 @@ module _ {N : Type 0} (fits : Shape → Entry N → Type 0) (window : WindowMode
         (record { rights = rank.view.rights; seen = rank.view.seen; own = rank.view.own })
         (λ right h. let has = every right h in right_at right rank.view.rights has.0 has.1 has.2)
         is.ranked
-        (record { begins = prefix-refl rank.view.seen; own = is.own; rest = tt });
+        (record { begins = ([], append-nil rank.view.seen); own = is.own; rest = tt });
   }
 
   module _ (before after : RankModel N) (old new : Txn) (follows : Follows before.view after.view) where
@@ -77,7 +80,7 @@ module _ {N : Type 0} (fits : Shape → Entry N → Type 0) (window : WindowMode
       seen = follows.seen;
       changes = prefix-refl [];
       clean = λ which was. elim which [
-        | inl some ↦ absurd some
+        | inl some ↦ absurd (cc some)
         | inr quiet ↦ ap has_no_spare (spares quiet) ∙ was
       ];
       takes = follows.takes;
@@ -86,7 +89,7 @@ module _ {N : Type 0} (fits : Shape → Entry N → Type 0) (window : WindowMode
     }
 
     keeps_commits : KeepsCommits (window_state window before old) (window_state window after new)
-    keeps_commits = record { own = follows.own; allowance = follows.allowance; seen = λ some. absurd some }
+    keeps_commits = record { own = follows.own; allowance = follows.allowance; seen = λ some. absurd (cc some) }
 
     pub aborts : IsNone new → Aborts (window_state window before old) (window_state window after new)
     aborts none = record { commits = keeps_commits; ended = record { phase = none.phase; reads = none.reads; writes = none.writes } }
@@ -138,3 +141,58 @@ module _ {N : Type 0} (fits : Shape → Entry N → Type 0) (window : WindowMode
           where
             some_of : (one other : List ℕ) → Some one ≡ Some other → one ≡ other
             some_of one other e = cc e
+
+    pub writes_object : (object : Place) (words : List ℕ) → new.reads ≡ old.reads → new.writes ≡ with_words old.writes object words → new.phase ≡ old.phase
+        → WritesObject object words (window_state window before old) (window_state window after new)
+    writes_object object words reads writes phase = record {
+      reads = reads;
+      writes = writes;
+      stays = record {
+        shape = refl;
+        phase = phase;
+        commits = keeps_commits;
+        most = refl;
+        strict = refl;
+        tries = refl;
+        changes = refl;
+        reads = λ other was e. ap (λ (r : Contents). words_at r other) reads ∙ e;
+      };
+    }
+
+    pub makes_object : (home : ℕ) (made : Place) → IsTrueView fits window.shape after.view → Makes window.shape home after.view old new made → new.phase ≡ old.phase
+        → MakesObject home (window_state window before old) (window_state window after new) made
+    makes_object home made is did phase = record {
+      rank = did.free.on;
+      block = did.free.is_block;
+      unreserved = did.free.unreserved;
+      empty = known_agrees after.view is made [] (known_of after.view.known made) refl did.known;
+      unwritten = did.unwritten;
+      reads = did.reads;
+      writes = did.writes;
+      stays = record {
+        shape = refl;
+        phase = phase;
+        commits = keeps_commits;
+        most = refl;
+        strict = refl;
+        tries = refl;
+        changes = refl;
+        reads = λ other was e. ap (λ (r : Contents). words_at r other) did.reads ∙ elim (place_cases other made) [
+          | inl here ↦ ap (words_at (with_words old.reads made [])) here ∙ (words_at_here old.reads made []
+              ∙ ap Some (sym did.unread ∙ (ap (content_of old.reads) (sym here) ∙ ap (λ o. unwrap_or o []) e)))
+          | inr differ ↦ words_at_other old.reads made [] other differ ∙ e
+        ];
+      };
+      most = λ most e. absurd (cc e);
+    }
+
+  -- a writing transaction may write an object in the ways that a store tells
+  pub may_be_written : (rank : RankModel N) (txn : Txn) (object : Place) → IsTied window rank txn → MayWrite (window_state window rank txn) object
+      → MayBeWritten window.shape txn.reads txn.taken.items object
+  may_be_written rank txn object tied (inl reserved) = λ unreserved _. absurd (unreserved reserved)
+  may_be_written rank txn object tied (inr (inl written)) = by_cases (words_at txn.writes object) refl written
+    where
+      by_cases : (found : Option (List ℕ)) → words_at txn.writes object ≡ found → IsSome found → MayBeWritten window.shape txn.reads txn.taken.items object
+      by_cases None e h = absurd (cc h)
+      by_cases (Some words) e h = tied.writes.may object words e
+  may_be_written rank txn object tied (inr (inr some)) = λ _ _. some

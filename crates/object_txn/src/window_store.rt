@@ -1,18 +1,21 @@
-ghost use Rattle.std.specs.Prelude.{◌≡◌, ◌≢◌, ◌<◌, false, IfErr, IfOk};
+ghost use Rattle.std.specs.Prelude.{◌≡◌, ◌≢◌, ◌<◌, ◌≤◌, length, IfErr, IfOk};
+ghost use Rattle.rma_layout.specs.declared.limits.TheConstants.{MOST_WORDS};
 ghost use Rattle.rma_layout.specs.Placement.{IsBlock};
 ghost use Rattle.object_store.specs.declared.phase.Phase.TheVariants.{Idle, Reading, Writing};
-ghost use Rattle.object_store.specs.Sound.{Continues, IsSound, StaysExplained};
-ghost use Rattle.object_store.specs.Calls.{Aborts, Begins, Finishes, ReadsObject};
-ghost use Rattle.object_store.specs.Refusals.{RefusesAccess, RefusesBegin};
+ghost use Rattle.object_store.specs.Sound.{Continues, IsSound};
+ghost use Rattle.object_store.specs.Calls.{Aborts, Begins, Finishes, MakesObject, MayWrite, ReadsObject, WritesObject};
+ghost use Rattle.object_store.specs.Refusals.{RefusesAccess, RefusesBegin, RefusesFresh};
 ghost use Rattle.window_rule.specs.Trails.{Follows};
 ghost use Rattle.object_txn.specs.Causes.{Explains};
 ghost use Rattle.object_txn.specs.State.{said_by, window_state};
 ghost use Rattle.object_txn.specs.Tied.{IsFree, IsNone, IsTied};
 
 use crate::ending::end_all;
+use crate::making::make;
 use crate::reading::read_at;
 use crate::refused::TxnRefused;
 use crate::txn::Txn;
+use crate::writing::write_at;
 use fabric::{Rank, Window};
 use object_store::Phase;
 use object_words::{Law, Words};
@@ -69,7 +72,7 @@ impl<'a, L: Law> WindowStore<'a, L> {
         ensures keeps { Continues L.fits (window_state self.old.window.now self.old.rank.now self.old.txn) (window_state self.new.window.now self.new.rank.now self.new.txn) }
         ensures done { IfOk result (λ _. Begins writing (window_state self.old.window.now self.old.rank.now self.old.txn) (window_state self.new.window.now self.new.rank.now self.new.txn)) }
         ensures refused { IfErr result (λ why. RefusesBegin writing (window_state self.old.window.now self.old.rank.now self.old.txn) (window_state self.new.window.now self.new.rank.now self.new.txn) (said_by why)) }
-        ensures explained { IfErr result (λ why. Explains self.new.window.now.shape self.old.rank.now.view self.new.rank.now.view why) }
+        ensures explained { IfErr result (λ why. Explains self.old.window.now.shape self.old.rank.now.view self.new.rank.now.view why) }
         ensures follows { Follows self.old.rank.now.view self.new.rank.now.view }
     {
         if writing && let Err(word) = self.rank.writer_try(self.window) {
@@ -92,13 +95,60 @@ impl<'a, L: Law> WindowStore<'a, L> {
         ensures keeps { Continues L.fits (window_state self.old.window.now self.old.rank.now self.old.txn) (window_state self.new.window.now self.new.rank.now self.new.txn) }
         ensures done { IfOk result (λ words. ReadsObject at (window_state self.old.window.now self.old.rank.now self.old.txn) (window_state self.new.window.now self.new.rank.now self.new.txn) words) }
         ensures refused { IfErr result (λ why. RefusesAccess at (window_state self.old.window.now self.old.rank.now self.old.txn) (window_state self.new.window.now self.new.rank.now self.new.txn) (said_by why)) }
-        ensures explained { IfErr result (λ why. Explains self.new.window.now.shape self.old.rank.now.view self.new.rank.now.view why) }
+        ensures explained { IfErr result (λ why. Explains self.old.window.now.shape self.old.rank.now.view self.new.rank.now.view why) }
         ensures follows { Follows self.old.rank.now.view self.new.rank.now.view }
     {
         match read_at(self.window, self.rank, &mut self.txn, self.alloc, at) {
             Ok(words) => {
                 self.rank.truths(self.window);
                 Ok(words)
+            }
+            Err(why) => {
+                self.abort();
+                Err(why)
+            }
+        }
+    }
+
+    /// Gives an object new words, at most 1,048,576, and marks it. To write no words to an object that isn't reserved gives
+    /// its blocks up at the commit.
+    pub fn write(&mut self, at: DPtr, words: Words) -> Result<(), TxnRefused>
+        requires begun { self.old.txn.phase ≡ Writing }
+        requires object { IsBlock (window_state self.old.window.now self.old.rank.now self.old.txn).shape at }
+        requires few { length words ≤ MOST_WORDS }
+        requires may { MayWrite (window_state self.old.window.now self.old.rank.now self.old.txn) at }
+        ensures keeps { Continues L.fits (window_state self.old.window.now self.old.rank.now self.old.txn) (window_state self.new.window.now self.new.rank.now self.new.txn) }
+        ensures done { IfOk result (λ _. WritesObject at words (window_state self.old.window.now self.old.rank.now self.old.txn) (window_state self.new.window.now self.new.rank.now self.new.txn)) }
+        ensures refused { IfErr result (λ why. RefusesAccess at (window_state self.old.window.now self.old.rank.now self.old.txn) (window_state self.new.window.now self.new.rank.now self.new.txn) (said_by why)) }
+        ensures explained { IfErr result (λ why. Explains self.old.window.now.shape self.old.rank.now.view self.new.rank.now.view why) }
+        ensures follows { Follows self.old.rank.now.view self.new.rank.now.view }
+    {
+        match write_at(self.window, self.rank, &mut self.txn, at, words) {
+            Ok(()) => {
+                self.rank.truths(self.window);
+                Ok(())
+            }
+            Err(why) => {
+                self.abort();
+                Err(why)
+            }
+        }
+    }
+
+    /// A new object of a rank: a block that nobody has, and which this rank takes and marks.
+    pub fn fresh(&mut self, home: u16) -> Result<DPtr, TxnRefused>
+        requires begun { self.old.txn.phase ≡ Writing }
+        requires rank { home < (window_state self.old.window.now self.old.rank.now self.old.txn).shape.ranks }
+        ensures keeps { Continues L.fits (window_state self.old.window.now self.old.rank.now self.old.txn) (window_state self.new.window.now self.new.rank.now self.new.txn) }
+        ensures done { IfOk result (λ made. MakesObject home (window_state self.old.window.now self.old.rank.now self.old.txn) (window_state self.new.window.now self.new.rank.now self.new.txn) made) }
+        ensures refused { IfErr result (λ why. RefusesFresh home (window_state self.old.window.now self.old.rank.now self.old.txn) (window_state self.new.window.now self.new.rank.now self.new.txn) (said_by why)) }
+        ensures explained { IfErr result (λ why. Explains self.old.window.now.shape self.old.rank.now.view self.new.rank.now.view why) }
+        ensures follows { Follows self.old.rank.now.view self.new.rank.now.view }
+    {
+        match make(self.window, self.rank, &mut self.txn, self.alloc, home) {
+            Ok(at) => {
+                self.rank.truths(self.window);
+                Ok(at)
             }
             Err(why) => {
                 self.abort();

@@ -1,10 +1,12 @@
-use Rattle.std.proofs.Common.{rules, ◌≡◌, refl, sym, ap, ◌∙◌, subst}
+use Rattle.std.proofs.Common.{rules, ◌≡◌, refl, sym, ap, ◌∙◌, subst, IsOk}
 use Rattle.window_rule.specs.View.{View, OfGate}
 use Rattle.window_rule.specs.Trails.{Follows}
 use Rattle.window_rule.specs.Truths.{IsTrueView}
 use Rattle.object_txn.specs.Tied.{IsTied}
 use Rattle.object_txn.proofs.StoreFacts.{continues, sound}
-use Rattle.object_txn.proofs.Explaining.{explains_later}
+use Rattle.lock_words.specs.declared.want.Want.TheVariants.{Writer}
+use Rattle.object_txn.specs.declared.txn.Txn.{Txn}
+use Rattle.object_txn.proofs.LockingFacts.{was_refused}
 use Rattle.object_txn.proofs.window_store.WindowStore.begin.Goals as goal
 
 pub returns-clause-keeps : goal.returns-clause-keeps
@@ -16,7 +18,17 @@ returns-clause-keeps g c =
     (λ _. c.truths.ensures.spares ∙ c.writer_try.ensures.spares)
 
 pub returns-clause-explained : goal.returns-clause-explained
-returns-clause-explained g c = ?
+returns-clause-explained g c =
+    let self = c.args.self.now in
+    was_refused self.window.now.shape OfGate Writer c.in-Err.word self.rank.now.view c.truths.new.self.view self.rank.now.view
+    (c.truths.ensures.view ∙ c.in-Err.ensures.view) refl c.in-Err.ensures.cause (λ alone. cc (subst IsOk c.in-Err.is (c.writer_try.ensures.alone alone)))
 
 pub returns-2-clause-keeps : goal.returns-2-clause-keeps
-returns-2-clause-keeps g c = ?
+returns-2-clause-keeps g c =
+    let self = c.args.self.now in
+    let txn : Txn = record { phase = c.if-writing-2.self; reads = self.txn.reads; writes = self.txn.writes; held = self.txn.held; taken = self.txn.taken } in
+    let follows : Follows self.rank.now.view c.truths-2.new.self.view = search rules in
+    let tied : IsTied self.window.now c.truths-2.new.self txn = search rules in
+    let spares : c.truths-2.new.self.spares ≡ self.rank.now.spares = search rules in
+    continues g.L.Law.fits self.window.now self.rank.now c.truths-2.new.self self.txn txn follows c.truths-2.ensures.truths tied
+    (λ _. spares)

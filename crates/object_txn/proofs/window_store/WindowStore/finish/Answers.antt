@@ -13,4 +13,4 @@ returns-clause-keeps g c =
     let follows : Follows self.rank.now.view c.truths.new.self.view = search rules in
     let tied : IsTied self.window.now c.truths.new.self c.end_all.new.txn = search rules in
     continues g.L.Law.fits self.window.now self.rank.now c.truths.new.self self.txn c.end_all.new.txn follows c.truths.ensures.truths tied
-    (λ quiet. c.truths.ensures.spares ∙ (c.end_all.ensures.spares quiet ∙ c.place.ensures.spares))
+    (λ quiet. c.truths.ensures.spares ∙ (c.end_all.ensures.spares quiet ∙ c.place-place.ensures.spares))

@@ -18,5 +18,5 @@ returns-in-Ok-clause-keeps g c =
 pub returns-in-Err-clause-explained : goal.returns-in-Err-clause-explained
 returns-in-Err-clause-explained g c =
     let self = c.args.self.now in
-    explains_later c.abort.new.self.window.now.shape self.rank.now.view c.read_at.new.rank.view c.abort.new.self.rank.now.view c.in-Err.why
+    explains_later self.window.now.shape self.rank.now.view c.read_at.new.rank.view c.abort.new.self.rank.now.view c.in-Err.why
     c.abort.ensures.follows c.in-Err.ensures.refused

@@ -1,0 +1,27 @@
+use Rattle.std.proofs.Common.{rules, ◌≡◌, refl, sym, ap, ◌∙◌, subst}
+use Rattle.window_rule.specs.View.{View, OfGate}
+use Rattle.window_rule.specs.Trails.{Follows}
+use Rattle.window_rule.specs.Truths.{IsTrueView}
+use Rattle.object_txn.specs.Tied.{IsTied}
+use Rattle.object_txn.proofs.StoreFacts.{continues, may_be_written}
+use Rattle.object_txn.proofs.Explaining.{explains_later}
+use Rattle.object_txn.proofs.window_store.WindowStore.write.Goals as goal
+
+pub returns-in-Ok-clause-keeps : goal.returns-in-Ok-clause-keeps
+returns-in-Ok-clause-keeps g c =
+    let self = c.args.self.now in
+    let follows : Follows self.rank.now.view c.truths.new.self.view = search rules in
+    let tied : IsTied self.window.now c.truths.new.self c.write_at.new.txn = search rules in
+    continues g.L.Law.fits self.window.now self.rank.now c.truths.new.self self.txn c.write_at.new.txn follows c.truths.ensures.truths tied
+    (λ _. c.truths.ensures.spares ∙ c.write_at.ensures.spares)
+
+pub returns-in-Err-clause-explained : goal.returns-in-Err-clause-explained
+returns-in-Err-clause-explained g c =
+    let self = c.args.self.now in
+    explains_later self.window.now.shape self.rank.now.view c.write_at.new.rank.view c.abort.new.self.rank.now.view c.in-Err.why
+    c.abort.ensures.follows c.in-Err.ensures.refused
+
+pub write_at-requires-clause-may : goal.write_at-requires-clause-may
+write_at-requires-clause-may g c =
+    let self = c.args.self.now in
+    may_be_written g.L.Law.fits self.window.now self.rank.now self.txn c.args.at self.tied c.requires.may
