@@ -32,7 +32,8 @@ use Rattle.block_pool.specs.declared.refused.PoolRefused.TheVariants as pool
 use Rattle.object_txn.specs.Causes.{Explains, Gained, HasLooked, HasMissed}
 use Rattle.object_txn.specs.declared.refused.TxnRefused.{TxnRefused}
 use Rattle.object_txn.specs.declared.refused.TxnRefused.TheVariants.{Empty, PoolBusy, Worn}
-use Rattle.object_txn.specs.Tied.{HasTaken, words_in}
+use Rattle.object_txn.specs.Tied.{HasTaken, HasWritten, MayBeWritten, words_in}
+use Rattle.object_txn.specs.declared.txn.Txn.{Txn}
 
 -- an object with words has a block
 some_blocks : (shape : Shape) (object : Place) (w : ℕ) (ws : List ℕ) → 0 < chain_length shape object (w ∷ ws)
@@ -68,6 +69,44 @@ module _ {N : Type 0} (fits : Shape → Entry N → Type 0) (shape : Shape) (vie
       by_cases : (found : Option (List ℕ)) → words_at reads object ≡ found → unwrap_or (words_at reads object) [] ≡ []
       by_cases None e = ap (λ o. unwrap_or o []) e
       by_cases (Some words) e = ap (λ o. unwrap_or o []) e ∙ own_is_empty (known_of view.known object) refl words (known words e)
+
+  pub read_is_known : (reads : Contents) → ((words : List ℕ) → words_at reads object ≡ Some words → words_in (known_of view.known object) ≡ Some words)
+      → is_some (words_at reads object) ≡ true → words_in (known_of view.known object) ≡ Some []
+  read_is_known reads known some = by_cases (words_at reads object) refl some
+    where
+      by_cases : (found : Option (List ℕ)) → words_at reads object ≡ found → is_some found ≡ true → words_in (known_of view.known object) ≡ Some []
+      by_cases None e h = absurd (cc h)
+      by_cases (Some words) e h = known words e ∙ ap Some (own_is_empty (known_of view.known object) refl words (known words e))
+
+pub none_there : (contents : Contents) (object : Place) → is_some (words_at contents object) ≡ false → words_at contents object ≡ None
+none_there contents object = by_cases (words_at contents object)
+  where
+    by_cases : (found : Option (List ℕ)) → is_some found ≡ false → found ≡ None
+    by_cases None h = refl
+    by_cases (Some words) h = absurd (cc h)
+
+pub noted_more : (old new : List Place) (block : Place) → new ≡ old ++ block ∷ [] → (other : Place) → times other old ≤ times other new
+noted_more old new block is other = omega (arith, ap (times other) is, times-append other old (block ∷ []))
+
+-- a block that was just taken may be written
+pub made_may : (shape : Shape) (reads : Contents) (old new : List Place) (block : Place) → new ≡ old ++ block ∷ [] → MayBeWritten shape reads new block
+made_may shape reads old new block is unreserved none =
+    let here : one_if (same_place block block) ≡ 1 = ap one_if (same_place-refl block) in
+    absurd (omega (arith, none, ap (times block) is, times-append block old (block ∷ []), here))
+
+-- and wasn't written
+pub unwritten_by : (shape : Shape) (txn : Txn) (block : Place) {home : ℕ} → MayBeFree shape home block → times block txn.taken.items ≡ 0
+    → HasWritten shape txn.held txn.reads txn.writes txn.taken.items → content_of txn.reads block ≡ [] → words_at txn.writes block ≡ None
+unwritten_by shape txn block free unnoted written unread = by_cases (words_at txn.writes block) refl
+  where
+    by_cases : (found : Option (List ℕ)) → words_at txn.writes block ≡ found → found ≡ None
+    by_cases None e = refl
+    by_cases (Some words) e = absurd (written.may block words e free.unreserved unnoted unread)
+
+-- a refusal for failed exchanges is busy
+pub never_busy : (result : Result Place PoolRefused) (refused : PoolRefused) (loaded seen : ℕ) → result ≡ Err refused → refused ≡ pool.PoolBusy loaded seen
+    → takes.is_busy result ≡ false → ⊥
+never_busy result refused loaded seen is why h = cc (sym (ap takes.is_busy (is ∙ ap Err why)) ∙ h)
 
 -- the first spare of a home rank is a spare
 pub first_is_spare : (shape : Shape) (own : List OwnBlock) (ends : SpareEnds) (home : ℕ) → home < 64 → HasSpares shape own ends
@@ -107,8 +146,8 @@ module _ {N : Type 0} (shape : Shape) (home : ℕ) (before after : RankModel N) 
       → HasTaken shape before.view.private before.spares items → HasTaken shape after.view.private after.spares new
   taken_more new unnoted noted free own no_spare stay taken =
       subst (HasTaken shape after.view.private after.spares) (sym noted) (record {
-        own = λ other h. (use other h).own;
-        no_spare = λ other h. (use other h).no_spare;
+        own = λ other h. (ready other h).own;
+        no_spare = λ other h. (ready other h).no_spare;
         blocks = λ other h. elim (place_cases other block) [
           | inl here ↦ subst (IsBlock shape) (sym here) free.is_block
           | inr differ ↦ taken.blocks other (was other differ h)
@@ -131,8 +170,8 @@ module _ {N : Type 0} (shape : Shape) (home : ℕ) (before after : RankModel N) 
           let gone : one_if (same_place block other) ≡ 0 = ap one_if (same_place-false block other (λ e. ne (sym e))) in
           omega (arith, times-append other items (block ∷ []), h, gone)
 
-      use : (other : Place) → 0 < times other (items ++ block ∷ []) → IsForUse shape after other
-      use other h = elim (place_cases other block) [
+      ready : (other : Place) → 0 < times other (items ++ block ∷ []) → IsForUse shape after other
+      ready other h = elim (place_cases other block) [
         | inl here ↦ subst (IsForUse shape after) (sym here) (record { own = own; no_spare = no_spare })
         | inr differ ↦ let there = was other differ h in stay other (record { own = taken.own other there; no_spare = taken.no_spare other there })
       ]
@@ -168,7 +207,7 @@ module _ {N : Type 0} (shape : Shape) (home : ℕ) (before after : View N) where
       tails h = cc h
 
   pub explains_empty : (head : ℕ) → Refuses home 64 before after (pool.Empty head) → Explains shape before after (Empty home head)
-  explains_empty head why = (has_looked head why.0, why.1)
+  explains_empty head why = (has_looked head why.0, why.1, why.2)
 
   pub explains_worn : (head : ℕ) → Refuses home 64 before after (pool.Worn head) → Explains shape before after (Worn home head)
   explains_worn head why = (has_looked head why.0, why.1)
@@ -176,8 +215,8 @@ module _ {N : Type 0} (shape : Shape) (home : ℕ) (before after : View N) where
   pub explains_busy : (loaded seen : ℕ) → ¬ IsAlone shape before → Refuses home 64 before after (pool.PoolBusy loaded seen)
       → Explains shape before after (PoolBusy home loaded seen)
   explains_busy loaded seen not_alone why =
-      let failed = why.2.2.2.0 in
-      let last = why.2.2.2.2 in record {
+      let failed = why.4 in
+      let last = why.5 in record {
         gained = record { more = failed.gained; is = sym failed.misses };
         this = last_is_new before.misses failed.gained last.earlier _ (sym failed.misses ∙ last.misses) (omega (arith, failed.as_many));
         many = omega (arith, all_on_home failed.gained failed.on_home, failed.as_many);

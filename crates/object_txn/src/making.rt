@@ -1,6 +1,6 @@
 ghost use Rattle.std.specs.Vec.{vec_capacity, vec_len};
 ghost use Rattle.std.specs.Prelude.{◌≡◌, ◌<◌, ◌⊎◌, [], ◌∷◌, ◌++◌, None, Some, IfErr, IfOk, OnErr, OnOk};
-ghost use Rattle.rma_layout.specs.Placement.{IsBlock, IsReserved};
+ghost use Rattle.rma_layout.specs.Placement.{IsBlock};
 ghost use Rattle.object_words.specs.Contents.{content_of};
 ghost use Rattle.window_rule.specs.ContentsHold.{Lasts};
 ghost use Rattle.window_rule.specs.Known.{known_of};
@@ -46,7 +46,9 @@ pub(crate) fn make<L: Law>(
     ensures follows { Follows rank.old.view rank.new.view }
 {
     let at = take_one(window, rank, &mut txn.taken, home)?;
-    mark(window, rank, &mut txn.held, at)?;
+    if let Err(why) = mark(window, rank, &mut txn.held, at) {
+        return Err(why);
+    }
     meet(window, rank, txn, at);
     txn.reads.put(at, Words::new(alloc))?;
     txn.writes.put(at, Words::new(alloc))?;
@@ -104,7 +106,6 @@ fn has_room(taken: &mut Vec<DPtr>) -> Result<(), NoMemory>
 /// Sees to it that an object is known that is one of the rank's own blocks: it is empty.
 fn meet<L: Law>(window: &Window<L>, rank: &mut Rank<L>, txn: &Txn, at: DPtr)
     requires object { IsBlock window.now.shape at }
-    requires unreserved { ¬ IsReserved window.now.shape at.block }
     requires own { 0 < times at (places_of rank.old.view.private) }
     requires tied { IsTied window.now rank.old txn.now }
     requires lasts { Lasts (hold_of rank.old.view.locks at) }

@@ -3,7 +3,8 @@ use Rattle.window_rule.specs.View.{View, OfGate}
 use Rattle.window_rule.specs.Trails.{Follows}
 use Rattle.window_rule.specs.Truths.{IsTrueView}
 use Rattle.object_txn.specs.Tied.{IsTied}
-use Rattle.object_txn.proofs.StoreFacts.{continues, sound}
+use Rattle.object_txn.specs.Moves.{Makes}
+use Rattle.object_txn.proofs.StoreFacts.{continues, makes_object}
 use Rattle.object_txn.proofs.Explaining.{explains_later}
 use Rattle.object_txn.proofs.window_store.WindowStore.fresh.Goals as goal
 
@@ -20,3 +21,11 @@ returns-in-Err-clause-explained g c =
     let self = c.args.self.now in
     explains_later self.window.now.shape self.rank.now.view c.make.new.rank.view c.abort.new.self.rank.now.view c.in-Err.why
     c.abort.ensures.follows c.in-Err.ensures.refused
+
+pub returns-in-Ok-clause-done : goal.returns-in-Ok-clause-done
+returns-in-Ok-clause-done g c =
+    let self = c.args.self.now in
+    let follows : Follows self.rank.now.view c.truths.new.self.view = search rules in
+    makes_object g.L.Law.fits self.window.now self.rank.now c.truths.new.self self.txn c.make.new.txn follows c.args.home c.in-Ok.at c.truths.ensures.truths
+    (subst (λ (v : View g.row.L-Note.Denot). Makes self.window.now.shape c.args.home v self.txn c.make.new.txn c.in-Ok.at) (sym c.truths.ensures.view) c.in-Ok.ensures.makes)
+    c.make.ensures.phase

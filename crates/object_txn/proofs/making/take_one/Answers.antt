@@ -1,0 +1,53 @@
+use Rattle.std.proofs.Common.{◌≡◌, ◌<◌, ◌∷◌, ◌++◌, [], refl, sym, ap, ◌∙◌, subst, arith}
+use Rattle.rma_layout.specs.Shape.{Shape}
+use Rattle.window_rule.specs.Pool.{MayBeFree}
+use Rattle.window_rule.specs.Spares.{HasSpares, IsNoSpare}
+use Rattle.block_pool.specs.Takes as takes
+use Rattle.block_pool.specs.Takes.{Refuses}
+use Rattle.object_txn.proofs.MakingFacts.{explains_busy, explains_empty, explains_worn, never_busy, taken_is_new, taken_more}
+use Rattle.object_txn.proofs.making.take_one.Goals as goal
+
+pub returns-in-Ok-push-clause-taken : goal.returns-in-Ok-push-clause-taken
+returns-in-Ok-push-clause-taken g c =
+    let shape = c.args.window.now.shape in
+    let before = c.args.rank.now in
+    let took = c.in-Ok.ensures.taken in
+    let below : c.args.home < 64 = omega (arith, c.requires.home, c.keeps_ranges.ensures.ranks, ap (λ s. s.ranks) c.geometry.ensures) in
+    let new = taken_is_new shape c.args.home before c.take.new.rank c.in-Ok.block c.args.taken.now.items below
+    (subst (λ (s : Shape). HasSpares s before.view.private before.spares) (ap (λ w. w.shape) c.requires.window) c.first_spare-first.ensures.has)
+    c.requires.taken took.from in
+    taken_more shape c.args.home before c.take.new.rank c.in-Ok.block c.args.taken.now.items c.push.new.self.items new
+    (c.in-Ok-push.ensures.items ∙ ap (λ l. l ++ c.in-Ok.block ∷ []) c.in_ok-has_room.ensures.items)
+    (subst (λ (s : Shape). MayBeFree s c.args.home c.in-Ok.block) (ap (λ w. w.shape) c.requires.window) took.free) took.own
+    (subst (λ (s : Shape). IsNoSpare s c.take.new.rank.view.private c.take.new.rank.spares c.in-Ok.block) (ap (λ w. w.shape) c.requires.window) took.no_spare)
+    c.take.ensures.stay c.requires.taken
+
+pub returns-in-Ok-push-clause-noted : goal.returns-in-Ok-push-clause-noted
+returns-in-Ok-push-clause-noted g c =
+    let shape = c.args.window.now.shape in
+    let before = c.args.rank.now in
+    let took = c.in-Ok.ensures.taken in
+    let below : c.args.home < 64 = omega (arith, c.requires.home, c.keeps_ranges.ensures.ranks, ap (λ s. s.ranks) c.geometry.ensures) in record {
+      free = subst (λ (s : Shape). MayBeFree s c.args.home c.in-Ok.block) (ap (λ w. w.shape) c.requires.window) took.free;
+      own = took.own;
+      noted = c.in-Ok-push.ensures.items ∙ ap (λ l. l ++ c.in-Ok.block ∷ []) c.in_ok-has_room.ensures.items;
+      unnoted = taken_is_new shape c.args.home before c.take.new.rank c.in-Ok.block c.args.taken.now.items below
+          (subst (λ (s : Shape). HasSpares s before.view.private before.spares) (ap (λ w. w.shape) c.requires.window) c.first_spare-first.ensures.has)
+          c.requires.taken took.from;
+    }
+
+pub returns-in-Err-Empty-clause-refused : goal.returns-in-Err-Empty-clause-refused
+returns-in-Err-Empty-clause-refused g c =
+    explains_empty c.args.window.now.shape c.args.home c.args.rank.now.view c.take.new.rank.view c.in-Err-Empty.head
+    (subst (Refuses c.args.home 64 c.args.rank.now.view c.take.new.rank.view) c.in-Err-Empty.field-0-is c.in-Err-Empty.ensures.taken.why)
+
+pub returns-in-Err-PoolBusy-clause-refused : goal.returns-in-Err-PoolBusy-clause-refused
+returns-in-Err-PoolBusy-clause-refused g c =
+    explains_busy c.args.window.now.shape c.args.home c.args.rank.now.view c.take.new.rank.view c.in-Err-PoolBusy.loaded c.in-Err-PoolBusy.seen
+    (λ alone. never_busy c.take.result _ c.in-Err-PoolBusy.loaded c.in-Err-PoolBusy.seen c.in-Err-PoolBusy.is c.in-Err-PoolBusy.field-0-is (c.take.ensures.alone alone))
+    (subst (Refuses c.args.home 64 c.args.rank.now.view c.take.new.rank.view) c.in-Err-PoolBusy.field-0-is c.in-Err-PoolBusy.ensures.taken.why)
+
+pub returns-in-Err-Worn-clause-refused : goal.returns-in-Err-Worn-clause-refused
+returns-in-Err-Worn-clause-refused g c =
+    explains_worn c.args.window.now.shape c.args.home c.args.rank.now.view c.take.new.rank.view c.in-Err-Worn.head
+    (subst (Refuses c.args.home 64 c.args.rank.now.view c.take.new.rank.view) c.in-Err-Worn.field-0-is c.in-Err-Worn.ensures.taken.why)
