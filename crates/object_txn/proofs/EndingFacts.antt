@@ -1,12 +1,11 @@
 -- What is left where a transaction ends.
-use Rattle.std.proofs.Common.{◌≡◌, ◌≢◌, ℕ, ◌+◌, ◌<◌, ◌≤◌, List, [], ◌∷◌, ◌++◌, length, ◌⊎◌, inl, inr, refl, sym, ap, ◌∙◌, subst, arith, length-append, None}
+use Rattle.std.proofs.Common.{◌≡◌, ◌≢◌, ◌+◌, ◌<◌, ◌≤◌, List, [], ◌∷◌, ◌++◌, length, ◌⊎◌, inl, inr, sym, ap, ◌∙◌, arith, length-append, None}
 use Rattle.rma_layout.specs.Shape.{Shape}
 use Rattle.rma_layout.specs.Placement.{Place, same_place}
 use Rattle.object_words.specs.Blocks.{one_if}
-use Rattle.window_rule.specs.View.{View, OwnBlock}
+use Rattle.window_rule.specs.View.{View}
 use Rattle.window_rule.specs.Locks.{hold_of}
 use Rattle.window_rule.specs.Partition.{times}
-use Rattle.window_rule.specs.Spares.{SpareEnds}
 use Rattle.window_rule.proofs.JoinSteps.{times-append}
 use Rattle.window_rule.proofs.LockLemmas.{same_place-refl}
 use Rattle.fabric.specs.Window.{RankModel}

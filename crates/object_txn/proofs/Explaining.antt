@@ -1,13 +1,13 @@
 -- A refusal stays explained.
-use Rattle.std.proofs.Common.{◌≡◌, ℕ, ◌+◌, ◌<◌, ◌≤◌, ◌==◌, cond, List, [], ◌∷◌, ◌++◌, refl, sym, ap, ◌∙◌, subst, arith, append_assoc}
-use Rattle.std.specs.List.{Contains, count_by}
+use Rattle.std.proofs.Common.{ℕ, ◌<◌, ◌≤◌, ◌==◌, cond, List, ◌++◌, sym, ap, ◌∙◌, subst, arith, append_assoc}
+use Rattle.std.specs.List.{count_by}
 use Rattle.std.proofs.lemmas.List.Elements.{Contains-append_left, Contains-append_right}
 use Rattle.std.proofs.lemmas.List.Sums.{sum_by-append}
 use mathlib.Core.List.{IsPrefix}
 use Rattle.rma_layout.specs.Shape.{Shape}
 use Rattle.lock_words.specs.declared.want.Want.{Want}
 use Rattle.lock_words.specs.declared.want.Want.TheVariants.{Writer}
-use Rattle.window_rule.specs.View.{View, Refusal, Miss, Look, Target, OfObject, OfGate}
+use Rattle.window_rule.specs.View.{View, Miss, Target, OfObject, OfGate}
 use Rattle.window_rule.specs.RightsHold.{IsAlone, right_count}
 use Rattle.window_rule.specs.Trails.{Follows}
 use Rattle.object_store.specs.Sound.{StaysExplained}

@@ -1,5 +1,5 @@
 -- What a lock that was tried for leaves.
-use Rattle.std.proofs.Common.{◌≡◌, ◌≢◌, ℕ, Bool, true, false, cond, List, [], ◌∷◌, ◌++◌, ◌⊎◌, inl, inr, refl, sym, ap, ◌∙◌, subst, arith, Option, Some, None}
+use Rattle.std.proofs.Common.{◌≡◌, ◌≢◌, ℕ, cond, List, [], ◌∷◌, ◌++◌, ◌⊎◌, inl, inr, refl, sym, ap, ◌∙◌, subst, arith, Some, None}
 use Rattle.rma_layout.specs.Shape.{Shape}
 use Rattle.rma_layout.specs.Placement.{Place, IsBlock, same_place}
 use Rattle.lock_words.specs.declared.want.Want.{Want}
@@ -8,7 +8,7 @@ use Rattle.window_rule.specs.View.{View, Hold, Known, Locks, Refusal, Target}
 use Rattle.window_rule.specs.Known.{known_of, without_known}
 use Rattle.window_rule.specs.Locks.{hold_of, with_lock, without_lock}
 use Rattle.window_rule.specs.RightsHold.{IsAlone}
-use Rattle.window_rule.specs.Steps.{locked, refused, tried, unlocked}
+use Rattle.window_rule.specs.Steps.{refused}
 use Rattle.window_rule.proofs.LockLemmas.{hold_of-with_same, hold_of-with_other, place_cases, same_place-refl, same_place-false, without_lock-with_lock}
 use Rattle.window_rule.proofs.Readings.{reading-stays}
 use Rattle.object_txn.specs.Causes.{WasRefused}

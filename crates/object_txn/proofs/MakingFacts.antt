@@ -1,36 +1,34 @@
 -- What taking a block for a new object tells.
-use Rattle.std.proofs.Common.{◌≡◌, ◌≢◌, ℕ, ◌+◌, ◌<◌, ◌≤◌, ◌==◌, eqb, not, ◌&&◌, cond, true, false, List, [], ◌∷◌, ◌++◌, length, ◌⊎◌, inl, inr, refl, sym, ap, ◌∙◌, subst, arith, append_assoc, length-append, zero, suc, Bool, ◌-◌, Option, Some, None, Result, Ok, Err}
+use Rattle.std.proofs.Common.{◌≡◌, ◌≢◌, ℕ, ◌<◌, ◌≤◌, ◌==◌, not, ◌&&◌, cond, true, false, List, [], ◌∷◌, ◌++◌, length, ◌⊎◌, inl, inr, refl, sym, ap, ◌∙◌, subst, arith, append_assoc, length-append, zero, suc, Bool, ◌-◌, Option, Some, None, Result, Err}
 use Rattle.std.specs.Prelude.{is_some}
 use Rattle.std.specs.Option.{unwrap_or}
 use Rattle.std.specs.List.{AllByRecursion, Contains, count_by}
 use Rattle.std.proofs.lemmas.Bool.Decides.{nat_tests}
-use Rattle.std.proofs.lemmas.List.Elements.{Contains-append_left, Contains-append_right}
+use Rattle.std.proofs.lemmas.List.Elements.{Contains-append_right}
 use Rattle.std.proofs.lemmas.List.Sums.{sum_by-cons}
-use mathlib.Core.List.{IsPrefix}
 use Rattle.rma_layout.specs.Shape.{Shape}
 use Rattle.rma_layout.specs.Placement.{Place, IsBlock, same_place}
 use Rattle.object_words.specs.Blocks.{blocks_for, is_reserved, on_rank, one_if}
 use Rattle.object_words.specs.Contents.{Contents, content_of, words_at}
 use Rattle.object_words.specs.Entries.{Entry}
-use Rattle.window_rule.specs.View.{View, Known, OwnBlock, Miss, Look}
+use Rattle.window_rule.specs.View.{View, Known, OwnBlock, Miss}
 use Rattle.window_rule.specs.Known.{known_of}
 use Rattle.window_rule.specs.Objects.{BeginsAt, chain_length, number_to}
 use Rattle.window_rule.specs.Partition.{places_of, times}
 use Rattle.window_rule.specs.Pool.{MayBeFree}
 use Rattle.window_rule.specs.RightsHold.{IsAlone}
-use Rattle.window_rule.specs.Spares.{SpareEnds, AreSparesOf, HasSpares, IsNoSpare, first_spare_of}
+use Rattle.window_rule.specs.Spares.{SpareEnds, HasSpares, IsNoSpare, first_spare_of}
 use Rattle.window_rule.specs.Truths.{IsTrueView}
 use Rattle.window_rule.proofs.JoinSteps.{times-append}
 use Rattle.window_rule.proofs.LockLemmas.{place_by_parts, place_cases, same_place-false, same_place-refl}
 use Rattle.fabric.specs.Window.{RankModel}
 use Rattle.block_pool.specs.Gives.{IsForUse}
-use Rattle.block_pool.specs.Moves.{Failed, FailedLast, Looked}
+use Rattle.block_pool.specs.Moves.{Looked}
 use Rattle.block_pool.specs.Takes as takes
 use Rattle.block_pool.specs.Takes.{Refuses}
 use Rattle.block_pool.specs.declared.refused.PoolRefused.{PoolRefused}
 use Rattle.block_pool.specs.declared.refused.PoolRefused.TheVariants as pool
-use Rattle.object_txn.specs.Causes.{Explains, Gained, HasLooked, HasMissed}
-use Rattle.object_txn.specs.declared.refused.TxnRefused.{TxnRefused}
+use Rattle.object_txn.specs.Causes.{Explains, HasLooked}
 use Rattle.object_txn.specs.declared.refused.TxnRefused.TheVariants.{Empty, PoolBusy, Worn}
 use Rattle.object_txn.specs.Tied.{HasTaken, HasWritten, MayBeWritten, words_in}
 use Rattle.object_txn.specs.declared.txn.Txn.{Txn}
@@ -121,7 +119,7 @@ first_is_spare shape own ends home below has some none =
     by_list (block ∷ more) _ first none may =
         let same : block ≡ on_rank home (first_spare_of ends home) = place_by_parts block (on_rank home (first_spare_of ends home)) may.0.on (sym first) in
         let here : one_if (same_place block (on_rank home (first_spare_of ends home))) ≡ 1 = ap (λ p. one_if (same_place p (on_rank home (first_spare_of ends home)))) same
-            ∙ ap one_if (same_place-refl (on_rank home (first_spare_of ends home))) in
+        ∙ ap one_if (same_place-refl (on_rank home (first_spare_of ends home))) in
         omega (arith, none, here)
 
 module _ {N : Type 0} (shape : Shape) (home : ℕ) (before after : RankModel N) (block : Place) (items : List Place) where

@@ -1,12 +1,12 @@
 -- What stands in contents once words are put.
-use Rattle.std.proofs.Common.{◌≡◌, ◌≢◌, ℕ, Bool, true, false, cond, List, [], ◌∷◌, refl, sym, ap, ◌∙◌, subst, Some, None}
+use Rattle.std.proofs.Common.{◌≡◌, ◌≢◌, ℕ, Bool, true, false, cond, List, [], ◌∷◌, refl, sym, ap, ◌∙◌, subst, Some}
 use Rattle.std.specs.Ordering.{is_eq, eq_by_cmp}
 use Rattle.std.specs.declared.cmp.Ordering.{Ordering}
 use Rattle.std.specs.declared.cmp.Ordering.TheVariants.{Less, Equal, Greater}
 use Rattle.std.specs.FinMap.Entries.{by_order}
 use Rattle.rma_layout.specs.Placement.{Place}
 use Rattle.object_words.specs.Contents.{Contents, IsByRisingObject, place_cmp, with_words, words_at}
-use Rattle.object_words.proofs.Places.{in_order-with_words, in_order_behind, once, places_equal, places_that_tie, words_at-with_words}
+use Rattle.object_words.proofs.Places.{in_order-with_words, in_order_behind, once, places_equal, words_at-with_words}
 
 pub words_at_other : (contents : Contents) (object : Place) (words : List ℕ) (other : Place) → other ≢ object
     → words_at (with_words contents object words) other ≡ words_at contents other

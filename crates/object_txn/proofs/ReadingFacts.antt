@@ -1,5 +1,5 @@
 -- What reading an object makes of a transaction.
-use Rattle.std.proofs.Common.{◌≡◌, ◌≢◌, ℕ, cond, List, inl, inr, refl, sym, ap, ◌∙◌, Option, Some, None}
+use Rattle.std.proofs.Common.{◌≡◌, ℕ, cond, List, inl, inr, sym, ap, ◌∙◌, Some, None}
 use Rattle.std.specs.Prelude.{is_some}
 use Rattle.rma_layout.specs.Placement.{Place}
 use Rattle.object_words.specs.Contents.{Contents, IsByRisingObject, with_words, words_at}

@@ -1,8 +1,8 @@
 -- A window under a rank does what a store does.
-use Rattle.std.proofs.Common.{◌≡◌, ◌≢◌, ℕ, ◌+◌, ◌<◌, Bool, true, false, cond, eqb, zero, suc, List, [], ◌∷◌, ◌++◌, append-nil, length, ◌⊎◌, inl, inr, refl, sym, ap, ◌∙◌, subst, arith, Option, Some, None}
+use Rattle.std.proofs.Common.{◌≡◌, ◌≢◌, ℕ, ◌<◌, Bool, cond, eqb, zero, suc, List, [], ◌∷◌, append-nil, length, inl, inr, refl, sym, ap, ◌∙◌, arith, Option, Some, None}
 use Rattle.std.specs.Prelude.{is_some, IsSome}
 use Rattle.std.specs.Option.{unwrap_or}
-use Rattle.std.specs.List.{range_with_len, slice_index_or, Contains}
+use Rattle.std.specs.List.{slice_index_or}
 use Rattle.std.proofs.lemmas.Bool.Decides.{nat_tests}
 use Rattle.std.proofs.lemmas.List.Elements.{All-from_recursion}
 use Rattle.rma_layout.specs.Shape.{Shape}
@@ -11,19 +11,17 @@ use Rattle.object_words.specs.Contents.{Agrees, Contents, content_of, with_words
 use Rattle.object_words.specs.Entries.{Entry, store_after}
 use Rattle.object_words.proofs.Places.{words_at_here}
 use Rattle.window_rule.proofs.LockLemmas.{place_cases}
-use Rattle.window_rule.specs.View.{View, Known, Chronicle}
+use Rattle.window_rule.specs.View.{View, Known}
 use Rattle.window_rule.specs.Known.{known_of}
 use Rattle.window_rule.specs.RightsHold.{right_count}
-use Rattle.window_rule.specs.NotesHold.{StandsAlone}
 use Rattle.window_rule.specs.Trails.{Follows}
 use Rattle.window_rule.specs.Truths.{IsTrueView}
 use Rattle.window_rule.proofs.SplitSteps.{count-cons}
 use Rattle.window_rule.proofs.Trails.{prefix-refl}
 use Rattle.window_rule.proofs.WholeOwn.{own_is_all}
 use Rattle.fabric.specs.Window.{WindowModel, RankModel}
-use Rattle.object_store.specs.declared.phase.Phase.TheVariants.{Idle, Reading, Writing}
-use Rattle.object_store.specs.State.{StoreState, HasEveryRight, committed}
-use Rattle.object_store.specs.Sound.{Continues, IsSound, KeepsCommits, StaysBegun}
+use Rattle.object_store.specs.declared.phase.Phase.TheVariants.{Reading, Writing}
+use Rattle.object_store.specs.Sound.{Continues, IsSound, KeepsCommits}
 use Rattle.object_store.specs.Calls.{Aborts, Begins, Finishes, MakesObject, MayWrite, ReadsObject, WritesObject}
 use Rattle.object_txn.specs.declared.txn.Txn.{Txn}
 use Rattle.object_txn.specs.Moves.{Makes, Reads}

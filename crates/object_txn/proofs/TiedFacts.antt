@@ -1,12 +1,12 @@
 -- A transaction stays tied to its rank.
-use Rattle.std.proofs.Common.{◌≡◌, ◌≢◌, ℕ, ◌<◌, ◌≤◌, Bool, true, false, cond, List, [], ◌∷◌, ◌⊎◌, inl, inr, refl, sym, ap, ◌∙◌, subst, arith, Option, Some, None}
+use Rattle.std.proofs.Common.{◌≡◌, ◌≢◌, ℕ, ◌≤◌, Bool, cond, List, [], ◌∷◌, inl, inr, refl, sym, ap, ◌∙◌, subst, arith, Some, None}
 use Rattle.rma_layout.specs.Shape.{Shape}
 use Rattle.rma_layout.specs.Placement.{Place}
 use Rattle.object_words.specs.Contents.{Contents, IsByRisingObject, content_of, with_words, words_at}
 use Rattle.object_words.specs.Entries.{Entry}
 use Rattle.object_words.proofs.Places.{in_order-with_words, words_at_here}
 use Rattle.std.specs.Option.{unwrap_or}
-use Rattle.window_rule.specs.View.{View, Hold, Marked, Known, Locks, Dirt, OwnBlock, GatePlace}
+use Rattle.window_rule.specs.View.{View, Marked, Known, Locks, Dirt, OwnBlock, GatePlace}
 use Rattle.window_rule.specs.ContentsHold.{Lasts}
 use Rattle.window_rule.specs.Known.{known_of, without_known}
 use Rattle.window_rule.specs.Lengths.{measured, placed}
@@ -21,7 +21,7 @@ use Rattle.object_store.specs.declared.phase.Phase.{Phase}
 use Rattle.object_store.specs.declared.phase.Phase.TheVariants.{Idle, Writing}
 use Rattle.object_txn.specs.declared.txn.Txn.{Txn}
 use Rattle.object_txn.specs.Moves.{Locked}
-use Rattle.object_txn.specs.Tied.{HasLocks, HasRead, HasTaken, HasWritten, IsClosed, IsInPhase, IsNone, IsTied, MayBeWritten, words_in}
+use Rattle.object_txn.specs.Tied.{HasLocks, HasTaken, IsClosed, IsNone, IsTied, MayBeWritten, words_in}
 use Rattle.object_txn.proofs.Maps.{words_at_other}
 
 -- what the parts read of a view that no lock and no reading changes

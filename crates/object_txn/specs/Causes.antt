@@ -6,7 +6,7 @@ use Rattle.lock_words.specs.declared.want.Want.{Want}
 use Rattle.lock_words.specs.declared.want.Want.TheVariants.{Writer}
 use Rattle.lock_words.specs.Conflicts.{Conflicts}
 use Rattle.free_list.specs.Heads.{first_of}
-use Rattle.window_rule.specs.View.{View, Refusal, Miss, Look, Target, OfObject, OfGate}
+use Rattle.window_rule.specs.View.{View, Miss, Target, OfObject, OfGate}
 use Rattle.window_rule.specs.RightsHold.{IsAlone}
 use Rattle.block_pool.specs.Moves.{IsUnworn, IsWorn}
 use Rattle.object_txn.specs.declared.refused.TxnRefused.{TxnRefused}

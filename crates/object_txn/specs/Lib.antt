@@ -2,3 +2,4 @@ pub mod State
 pub mod Tied
 pub mod Causes
 pub mod Moves
+pub mod Endings

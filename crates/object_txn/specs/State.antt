@@ -1,5 +1,5 @@
 -- A window under a rank, as a store.
-use Rattle.std.specs.Prelude.{◌≡◌, ◌==◌, ℕ, Bool, [], None}
+use Rattle.std.specs.Prelude.{◌==◌, Bool, [], None}
 use Rattle.std.specs.List.{list_all}
 use Rattle.window_rule.specs.View.{GatePlace, Outside, AsWriter}
 use Rattle.window_rule.specs.Spares.{SpareEnds}

@@ -1,9 +1,9 @@
 -- What ties a transaction to the rank that makes it.
-use Rattle.std.specs.Prelude.{◌≡◌, ◌≢◌, ℕ, ◌<◌, ◌≤◌, Bool, List, [], Option, Some, None}
+use Rattle.std.specs.Prelude.{◌≡◌, ◌≢◌, ℕ, ◌<◌, ◌≤◌, List, [], Option, Some, None}
 use Rattle.rma_layout.specs.Shape.{Shape}
 use Rattle.rma_layout.specs.Placement.{Place, IsBlock, IsReserved}
 use Rattle.object_words.specs.Contents.{Contents, IsByRisingObject, content_of, words_at}
-use Rattle.window_rule.specs.View.{View, Hold, Marked, Known, Locks, Dirt, OwnBlock, GatePlace}
+use Rattle.window_rule.specs.View.{View, Hold, Marked, Known, Locks, OwnBlock}
 use Rattle.window_rule.specs.Known.{known_of}
 use Rattle.window_rule.specs.Locks.{hold_of}
 use Rattle.window_rule.specs.Partition.{places_of, times}

@@ -6,6 +6,7 @@ ghost use Rattle.window_rule.specs.Locks.{hold_of};
 ghost use Rattle.window_rule.specs.Trails.{Follows};
 ghost use Rattle.block_pool.specs.Gives.{OnlyBlocks};
 ghost use Rattle.object_store.specs.declared.phase.Phase.TheVariants.{Writing};
+ghost use Rattle.object_txn.specs.Endings.{GivesBack, GivesEach};
 ghost use Rattle.object_txn.specs.State.{gate_of};
 ghost use Rattle.object_txn.specs.Tied.{HasTaken, IsNone, IsTied};
 
@@ -23,6 +24,7 @@ pub(crate) fn end_all<L: Law>(window: &Window<L>, rank: &mut Rank<L>, txn: &mut 
     requires tied { IsTied window.now rank.old txn.old }
     ensures tied { IsTied window.now rank.new txn.new }
     ensures ended { IsNone txn.new }
+    ensures given { GivesBack txn.old.taken.items rank.old rank.new }
     ensures seen { rank.new.view.seen ≡ rank.old.view.seen }
     ensures spares { txn.old.phase ≢ Writing → rank.new.spares ≡ rank.old.spares }
     ensures follows { Follows rank.old.view rank.new.view }
@@ -56,6 +58,7 @@ fn give_all<L: Law>(window: &Window<L>, rank: &mut Rank<L>, taken: &mut Vec<DPtr
     requires clean { rank.old.view.dirty ≡ [] }
     ensures window { rank.new.window ≡ rank.old.window }
     ensures none { taken.new.items ≡ [] }
+    ensures given { GivesEach taken.old.items rank.old rank.new }
     ensures view { OnlyBlocks rank.old.view rank.new.view }
     ensures spares { taken.old.items ≡ [] → rank.new.spares ≡ rank.old.spares }
     ensures follows { Follows rank.old.view rank.new.view }

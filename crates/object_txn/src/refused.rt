@@ -8,11 +8,7 @@ use rma_layout::DPtr;
 #[derive(Clone, Copy, Debug, PartialEq, Eq)]
 pub enum TxnRefused {
     /// The lock word of the object was this one, which stands in the way of what was wanted.
-    Busy {
-        object: DPtr,
-        want: Want,
-        word: u64,
-    },
+    Busy { object: DPtr, want: Want, word: u64 },
     /// The gate word was this one: somebody looks at the whole window.
     GateBusy { word: u64 },
     /// The free list of the home rank behind this head is empty.

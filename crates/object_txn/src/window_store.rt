@@ -1,4 +1,4 @@
-ghost use Rattle.std.specs.Prelude.{◌≡◌, ◌≢◌, ◌<◌, ◌≤◌, length, IfErr, IfOk};
+ghost use Rattle.std.specs.Prelude.{◌≡◌, ◌≢◌, ◌<◌, ◌≤◌, length, IfErr, IfOk, OnErr};
 ghost use Rattle.rma_layout.specs.declared.limits.TheConstants.{MOST_WORDS};
 ghost use Rattle.rma_layout.specs.Placement.{IsBlock};
 ghost use Rattle.object_store.specs.declared.phase.Phase.TheVariants.{Idle, Reading, Writing};
@@ -7,6 +7,7 @@ ghost use Rattle.object_store.specs.Calls.{Aborts, Begins, Finishes, MakesObject
 ghost use Rattle.object_store.specs.Refusals.{RefusesAccess, RefusesBegin, RefusesFresh};
 ghost use Rattle.window_rule.specs.Trails.{Follows};
 ghost use Rattle.object_txn.specs.Causes.{Explains};
+ghost use Rattle.object_txn.specs.Endings.{GivesBack};
 ghost use Rattle.object_txn.specs.State.{said_by, window_state};
 ghost use Rattle.object_txn.specs.Tied.{IsFree, IsNone, IsTied};
 
@@ -96,6 +97,7 @@ impl<'a, L: Law> WindowStore<'a, L> {
         ensures done { IfOk result (λ words. ReadsObject at (window_state self.old.window.now self.old.rank.now self.old.txn) (window_state self.new.window.now self.new.rank.now self.new.txn) words) }
         ensures refused { IfErr result (λ why. RefusesAccess at (window_state self.old.window.now self.old.rank.now self.old.txn) (window_state self.new.window.now self.new.rank.now self.new.txn) (said_by why)) }
         ensures explained { IfErr result (λ why. Explains self.old.window.now.shape self.old.rank.now.view self.new.rank.now.view why) }
+        ensures given { OnErr result (GivesBack self.old.txn.taken.items self.old.rank.now self.new.rank.now) }
         ensures follows { Follows self.old.rank.now.view self.new.rank.now.view }
     {
         match read_at(self.window, self.rank, &mut self.txn, self.alloc, at) {
@@ -121,6 +123,7 @@ impl<'a, L: Law> WindowStore<'a, L> {
         ensures done { IfOk result (λ _. WritesObject at words (window_state self.old.window.now self.old.rank.now self.old.txn) (window_state self.new.window.now self.new.rank.now self.new.txn)) }
         ensures refused { IfErr result (λ why. RefusesAccess at (window_state self.old.window.now self.old.rank.now self.old.txn) (window_state self.new.window.now self.new.rank.now self.new.txn) (said_by why)) }
         ensures explained { IfErr result (λ why. Explains self.old.window.now.shape self.old.rank.now.view self.new.rank.now.view why) }
+        ensures given { OnErr result (GivesBack self.old.txn.taken.items self.old.rank.now self.new.rank.now) }
         ensures follows { Follows self.old.rank.now.view self.new.rank.now.view }
     {
         match write_at(self.window, self.rank, &mut self.txn, at, words) {
@@ -175,6 +178,7 @@ impl<'a, L: Law> WindowStore<'a, L> {
         requires { self.old.txn.phase ≢ Idle }
         ensures keeps { Continues L.fits (window_state self.old.window.now self.old.rank.now self.old.txn) (window_state self.new.window.now self.new.rank.now self.new.txn) }
         ensures done { Aborts (window_state self.old.window.now self.old.rank.now self.old.txn) (window_state self.new.window.now self.new.rank.now self.new.txn) }
+        ensures given { GivesBack self.old.txn.taken.items self.old.rank.now self.new.rank.now }
         ensures follows { Follows self.old.rank.now.view self.new.rank.now.view }
     {
         end_all(self.window, self.rank, &mut self.txn);

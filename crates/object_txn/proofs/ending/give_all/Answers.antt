@@ -1,7 +1,8 @@
-use Rattle.std.proofs.Common.{◌≡◌, ◌≢◌, ◌<◌, ◌∷◌, ◌++◌, [], length, ap, sym, ◌∙◌, arith}
+use Rattle.std.proofs.Common.{length, ap, ◌∙◌, arith}
 use Rattle.window_rule.specs.View.{View}
 use Rattle.window_rule.specs.Locks.{hold_of}
-use Rattle.window_rule.proofs.Trails.{follows_trans}
+use Rattle.window_rule.specs.Trails.{trail_of}
+use Rattle.window_rule.proofs.Trails.{follows_trans, goes_on-refl}
 use Rattle.object_txn.proofs.EndingFacts.{blocks-then, fewer, given_view, last_there, may_give, taken_less}
 use Rattle.object_txn.proofs.ending.give_all.Goals as goal
 
@@ -27,8 +28,31 @@ loop-block-preserved g c =
       view = blocks-then c.args.rank.now.view c.loop-block.rank.view c.give.new.rank.view old.view given;
       none = λ none. absurd (omega (arith, ap length (old.none none), fewer c.loop-block.taken.items c.pop.new.self.items _ c.in-Some.ensures.items));
       spares = λ none. absurd (omega (arith, ap length (old.none none), fewer c.loop-block.taken.items c.pop.new.self.items _ c.in-Some.ensures.items));
+      given = (
+        c.in-Some.block ∷ old.given.0,
+        old.given.1 ∙ (ap (λ l. l ++ old.given.0) c.in-Some.ensures.items ∙ append_assoc c.pop.new.self.items (c.in-Some.block ∷ []) old.given.0),
+        c.loop-block.rank,
+        old.given.2,
+        c.give.ensures.given,
+      );
       follows = follows_trans c.args.rank.now.view c.loop-block.rank.view c.give.new.rank.view old.follows c.give.ensures.follows;
     }
 
 pub loop-block-smaller : goal.loop-block-smaller
 loop-block-smaller g c = omega (arith, fewer c.loop-block.taken.items c.pop.new.self.items _ c.in-Some.ensures.items)
+
+pub loop-block-init : goal.loop-block-init
+loop-block-init g c = record {
+  window = refl;
+  taken = c.requires.taken;
+  locks = c.requires.locks;
+  clean = c.requires.clean;
+  view = refl;
+  none = λ none. none;
+  spares = λ _. refl;
+  given = ([], sym (append-nil c.args.taken.now.items), refl);
+  follows = goes_on-refl (trail_of c.args.rank.now.view);
+}
+
+pub returns-clause-given : goal.returns-clause-given
+returns-clause-given g c = ?

@@ -1,8 +1,9 @@
-use Rattle.std.proofs.Common.{◌≡◌, [], length, None}
+use Rattle.std.proofs.Common.{◌≡◌, List, ◌++◌, [], length, None}
 use Rattle.rma_layout.specs.Placement.{Place}
 use Rattle.window_rule.specs.Locks.{hold_of}
 use Rattle.window_rule.specs.Trails.{Follows}
 use Rattle.block_pool.specs.Gives.{OnlyBlocks}
+use Rattle.object_txn.specs.Endings.{GivesEach}
 use Rattle.object_txn.specs.Tied.{HasTaken}
 use Rattle.object_txn.proofs.ending.give_all.Given as goal
 
@@ -15,6 +16,7 @@ invariant-loop-block g l = record {
   view : OnlyBlocks l.initial.rank.view l.rank.view;
   none : l.initial.taken.items ≡ [] → l.taken.items ≡ [];
   spares : l.initial.taken.items ≡ [] → l.rank.spares ≡ l.initial.rank.spares;
+  given : (rest : List Place) × (l.initial.taken.items ≡ l.taken.items ++ rest) × GivesEach rest l.initial.rank l.rank;
   follows : Follows l.initial.rank.view l.rank.view;
 }
 

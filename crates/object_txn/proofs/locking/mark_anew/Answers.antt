@@ -1,8 +1,8 @@
-use Rattle.std.proofs.Common.{◌≡◌, refl, sym, ap, ◌∙◌, subst, inl, inr, Ok, Err, IsOk, Some}
-use Rattle.lock_words.specs.declared.want.Want.TheVariants.{Share, Mark, Rise}
-use Rattle.window_rule.specs.View.{View, Shared, Marked, OfObject}
+use Rattle.std.proofs.Common.{refl, sym, ap, ◌∙◌, subst, IsOk}
+use Rattle.lock_words.specs.declared.want.Want.TheVariants.{Mark}
+use Rattle.window_rule.specs.View.{View, Marked, OfObject}
 use Rattle.window_rule.specs.Steps.{locked, tried, unlocked}
-use Rattle.object_txn.proofs.LockingFacts.{locked_back, locks_back, locks_put, locks_same, was_refused}
+use Rattle.object_txn.proofs.LockingFacts.{locked_back, locks_back, locks_put, was_refused}
 use Rattle.object_txn.specs.Tied.{HasLocks}
 use Rattle.object_txn.proofs.locking.mark_anew.Goals as goal
 

@@ -1,4 +1,4 @@
-use Rattle.std.proofs.Common.{◌≡◌, ◌≢◌, refl, sym, ap, ◌∙◌, subst, []}
+use Rattle.std.proofs.Common.{◌≢◌, refl, sym, ap, ◌∙◌, subst, []}
 use Rattle.object_words.specs.Contents.{Contents, with_words}
 use Rattle.window_rule.specs.View.{Locks}
 use Rattle.window_rule.specs.ContentsHold.{Lasts}

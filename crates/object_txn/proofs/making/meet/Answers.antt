@@ -1,4 +1,4 @@
-use Rattle.std.proofs.Common.{◌≡◌, ◌<◌, refl, sym, ap, ◌∙◌, subst, Some, [], None}
+use Rattle.std.proofs.Common.{◌<◌, refl, sym, ap, ◌∙◌, subst, Some}
 use Rattle.window_rule.specs.View.{View}
 use Rattle.window_rule.specs.Known.{known_of}
 use Rattle.window_rule.specs.Partition.{places_of, times}

@@ -1,8 +1,7 @@
-use Rattle.std.proofs.Common.{◌≡◌, ◌<◌, ◌∷◌, ◌++◌, [], refl, sym, ap, ◌∙◌, subst, arith}
+use Rattle.std.proofs.Common.{◌<◌, ◌∷◌, ◌++◌, [], ap, ◌∙◌, subst, arith}
 use Rattle.rma_layout.specs.Shape.{Shape}
 use Rattle.window_rule.specs.Pool.{MayBeFree}
 use Rattle.window_rule.specs.Spares.{HasSpares, IsNoSpare}
-use Rattle.block_pool.specs.Takes as takes
 use Rattle.block_pool.specs.Takes.{Refuses}
 use Rattle.object_txn.proofs.MakingFacts.{explains_busy, explains_empty, explains_worn, never_busy, taken_is_new, taken_more}
 use Rattle.object_txn.proofs.making.take_one.Goals as goal

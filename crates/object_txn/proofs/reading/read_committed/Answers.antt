@@ -1,4 +1,4 @@
-use Rattle.std.proofs.Common.{◌≡◌, refl, sym, ap, ◌∙◌, subst, Some}
+use Rattle.std.proofs.Common.{sym, ap, ◌∙◌, subst, Some}
 use Rattle.window_rule.specs.View.{View}
 use Rattle.window_rule.specs.Locks.{hold_of}
 use Rattle.window_rule.specs.ContentsHold.{Lasts}
@@ -44,7 +44,7 @@ returns-clause-tied g c =
     let loads = c.in_ok-loaded.ensures.loads in
     let words = c.in_ok-loaded.loaded.words in
     let known = ap words_in (measured_is c.args.at loads.known loads.history c.hold.new.rank.view c.load.new.rank.view loads.view)
-        ∙ ap Some (sym loads.loaded.1) in
+    ∙ ap Some (sym loads.loaded.1) in
     tied_noted c.args.window.now c.load.new.rank (record c.args.txn.now { held = c.hold.new.held }) c.put.new.self c.args.at words
     (c.in_ok-put.ensures.ok ∙ ap (with_words c.args.txn.now.reads c.args.at) c.in_ok-copy.ensures) known
     (subst (λ (v : View g.row.L-Note.Denot). Lasts (hold_of v.locks c.args.at)) (sym loads.view) c.in_ok-hold.ensures.lasts)
@@ -59,7 +59,7 @@ returns-clause-reads g c =
     let loads = c.in_ok-loaded.ensures.loads in
     let words = c.in_ok-loaded.loaded.words in
     let known = ap words_in (measured_is c.args.at loads.known loads.history c.hold.new.rank.view c.load.new.rank.view loads.view)
-        ∙ ap Some (sym loads.loaded.1) in
+    ∙ ap Some (sym loads.loaded.1) in
     reads_committed c.args.at c.load.new.rank.view c.args.txn.now
     (record c.args.txn.now { held = c.hold.new.held; reads = c.put.new.self }) words c.requires.unwritten c.requires.unread known
     (c.in_ok-put.ensures.ok ∙ ap (with_words c.args.txn.now.reads c.args.at) c.in_ok-copy.ensures)

@@ -1,7 +1,6 @@
-use Rattle.std.proofs.Common.{◌≡◌, ◌≢◌, refl, sym, ap, ◌∙◌, subst}
+use Rattle.std.proofs.Common.{sym, ◌∙◌, subst}
 use Rattle.object_words.specs.Contents.{Contents}
 use Rattle.object_txn.specs.Tied.{IsTied}
-use Rattle.object_store.specs.declared.phase.Phase.TheVariants.{Idle}
 use Rattle.object_txn.proofs.TiedFacts.{tied_locked, tied_written}
 use Rattle.object_txn.proofs.writing.write_at.Goals as goal
 

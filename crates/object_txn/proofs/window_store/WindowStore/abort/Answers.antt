@@ -1,10 +1,7 @@
-use Rattle.std.proofs.Common.{rules, ◌≡◌, refl, sym, ap, ◌∙◌, subst}
-use Rattle.window_rule.specs.View.{View, OfGate}
+use Rattle.std.proofs.Common.{rules, ◌∙◌}
 use Rattle.window_rule.specs.Trails.{Follows}
-use Rattle.window_rule.specs.Truths.{IsTrueView}
 use Rattle.object_txn.specs.Tied.{IsTied}
-use Rattle.object_txn.proofs.StoreFacts.{continues, sound}
-use Rattle.object_txn.proofs.Explaining.{explains_later}
+use Rattle.object_txn.proofs.StoreFacts.{continues}
 use Rattle.object_txn.proofs.window_store.WindowStore.abort.Goals as goal
 
 pub returns-clause-keeps : goal.returns-clause-keeps

@@ -1,9 +1,8 @@
-use Rattle.std.proofs.Common.{rules, ◌≡◌, refl, sym, ap, ◌∙◌, subst, IsOk}
-use Rattle.window_rule.specs.View.{View, OfGate}
+use Rattle.std.proofs.Common.{rules, ◌≡◌, refl, ◌∙◌, subst, IsOk}
+use Rattle.window_rule.specs.View.{OfGate}
 use Rattle.window_rule.specs.Trails.{Follows}
-use Rattle.window_rule.specs.Truths.{IsTrueView}
 use Rattle.object_txn.specs.Tied.{IsTied}
-use Rattle.object_txn.proofs.StoreFacts.{continues, sound}
+use Rattle.object_txn.proofs.StoreFacts.{continues}
 use Rattle.lock_words.specs.declared.want.Want.TheVariants.{Writer}
 use Rattle.object_txn.specs.declared.txn.Txn.{Txn}
 use Rattle.object_txn.proofs.LockingFacts.{was_refused}

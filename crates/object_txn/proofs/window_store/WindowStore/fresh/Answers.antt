@@ -1,7 +1,6 @@
-use Rattle.std.proofs.Common.{rules, ◌≡◌, refl, sym, ap, ◌∙◌, subst}
-use Rattle.window_rule.specs.View.{View, OfGate}
+use Rattle.std.proofs.Common.{rules, sym, subst}
+use Rattle.window_rule.specs.View.{View}
 use Rattle.window_rule.specs.Trails.{Follows}
-use Rattle.window_rule.specs.Truths.{IsTrueView}
 use Rattle.object_txn.specs.Tied.{IsTied}
 use Rattle.object_txn.specs.Moves.{Makes}
 use Rattle.object_txn.proofs.StoreFacts.{continues, makes_object}

@@ -1,7 +1,5 @@
-use Rattle.std.proofs.Common.{rules, ◌≡◌, refl, sym, ap, ◌∙◌, subst}
-use Rattle.window_rule.specs.View.{View, OfGate}
+use Rattle.std.proofs.Common.{rules, ◌∙◌}
 use Rattle.window_rule.specs.Trails.{Follows}
-use Rattle.window_rule.specs.Truths.{IsTrueView}
 use Rattle.object_txn.specs.Tied.{IsTied}
 use Rattle.object_txn.proofs.StoreFacts.{continues, may_be_written}
 use Rattle.object_txn.proofs.Explaining.{explains_later}

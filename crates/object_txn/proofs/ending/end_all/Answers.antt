@@ -1,0 +1,11 @@
+use Rattle.std.proofs.Common.{refl, sym, ap, ◌∙◌}
+use Rattle.window_rule.specs.View.{View}
+use Rattle.object_txn.proofs.ending.end_all.Goals as goal
+
+pub returns-clause-given : goal.returns-clause-given
+returns-clause-given g c = record {
+  left = c.leave_gate.new.rank;
+  private = ap (λ (v : View g.row.L-Note.Denot). v.private) c.leave_gate.ensures.view ∙ ap (λ (v : View g.row.L-Note.Denot). v.private) c.leave_all.ensures.left.only;
+  spares = c.leave_gate.ensures.spares ∙ c.leave_all.ensures.spares;
+  given = c.give_all.ensures.given;
+}
