@@ -33,6 +33,8 @@ pub(crate) fn read_at<L: Law>(
     ensures tied { IsTied window.now rank.new txn.new }
     ensures phase { txn.new.phase ≡ txn.old.phase }
     ensures writes { txn.new.writes ≡ txn.old.writes }
+    ensures taken { txn.new.taken ≡ txn.old.taken }
+    ensures private { rank.new.view.private ≡ rank.old.view.private }
     ensures spares { rank.new.spares ≡ rank.old.spares }
     ensures reads { IfOk result (λ words. Reads at rank.new.view txn.old txn.new words) }
     ensures names { IfErr result (λ why. (named_by why ≡ names_nothing) ⊎ (named_by why ≡ names_object at)) }
@@ -64,6 +66,8 @@ fn read_committed<L: Law>(
     ensures tied { IsTied window.now rank.new txn.new }
     ensures phase { txn.new.phase ≡ txn.old.phase }
     ensures writes { txn.new.writes ≡ txn.old.writes }
+    ensures taken { txn.new.taken ≡ txn.old.taken }
+    ensures private { rank.new.view.private ≡ rank.old.view.private }
     ensures spares { rank.new.spares ≡ rank.old.spares }
     ensures reads { IfOk result (λ words. Reads at rank.new.view txn.old txn.new words) }
     ensures names { IfErr result (λ why. (named_by why ≡ names_nothing) ⊎ (named_by why ≡ names_object at)) }

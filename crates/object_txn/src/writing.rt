@@ -32,6 +32,8 @@ pub(crate) fn write_at<L: Law>(
     ensures phase { txn.new.phase ≡ txn.old.phase }
     ensures reads { txn.new.reads ≡ txn.old.reads }
     ensures writes { OnOk result (txn.new.writes ≡ with_words txn.old.writes at words) }
+    ensures taken { txn.new.taken ≡ txn.old.taken }
+    ensures private { rank.new.view.private ≡ rank.old.view.private }
     ensures spares { rank.new.spares ≡ rank.old.spares }
     ensures names { IfErr result (λ why. (named_by why ≡ names_nothing) ⊎ (named_by why ≡ names_object at)) }
     ensures refused { IfErr result (λ why. Explains window.now.shape rank.old.view rank.new.view why) }

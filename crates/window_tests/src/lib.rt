@@ -1,4 +1,4 @@
-//! Tests of the window: heads of free lists, the steps of ranks, and blocks for objects.
+//! Tests of the window: heads of free lists, the steps of ranks, blocks for objects, and transactions.
 #![tactic(auto)]
 
 #[cfg(test)]
@@ -9,3 +9,5 @@ mod pool;
 mod steps;
 #[cfg(test)]
 mod sums;
+#[cfg(test)]
+mod txns;

@@ -1,4 +1,6 @@
-use Rattle.std.proofs.Common.{length, ap, ◌∙◌, arith}
+use Rattle.std.proofs.Common.{◌≡◌, ◌∷◌, ◌++◌, List, [], length, ap, sym, ◌∙◌, arith, refl, rules, append-nil, append_assoc, subst}
+use Rattle.rma_layout.specs.Placement.{Place}
+use Rattle.object_txn.specs.Endings.{GivesEach}
 use Rattle.window_rule.specs.View.{View}
 use Rattle.window_rule.specs.Locks.{hold_of}
 use Rattle.window_rule.specs.Trails.{trail_of}
@@ -31,9 +33,7 @@ loop-block-preserved g c =
       given = (
         c.in-Some.block ∷ old.given.0,
         old.given.1 ∙ (ap (λ l. l ++ old.given.0) c.in-Some.ensures.items ∙ append_assoc c.pop.new.self.items (c.in-Some.block ∷ []) old.given.0),
-        c.loop-block.rank,
-        old.given.2,
-        c.give.ensures.given,
+        (c.loop-block.rank, old.given.2, c.give.ensures.given),
       );
       follows = follows_trans c.args.rank.now.view c.loop-block.rank.view c.give.new.rank.view old.follows c.give.ensures.follows;
     }
@@ -55,4 +55,8 @@ loop-block-init g c = record {
 }
 
 pub returns-clause-given : goal.returns-clause-given
-returns-clause-given g c = ?
+returns-clause-given g c =
+    let old = c.loop-block.invariant in
+    let gone : c.pop.new.self.items ≡ [] = search rules in
+    let none : c.loop-block.taken.items ≡ [] = c.in_default.ensures.items ∙ (append-nil c.pop.new.self.items ∙ gone) in
+    subst (λ (l : List Place). GivesEach l c.args.rank.now c.loop-block.rank) (sym (old.given.1 ∙ ap (λ l. l ++ old.given.0) none)) old.given.2

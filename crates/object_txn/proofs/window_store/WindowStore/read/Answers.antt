@@ -1,5 +1,7 @@
-use Rattle.std.proofs.Common.{rules, ◌∙◌}
+use Rattle.std.proofs.Common.{rules, ◌≡◌, List, ap, ◌∙◌, subst}
 use Rattle.window_rule.specs.Trails.{Follows}
+use Rattle.rma_layout.specs.Placement.{Place}
+use Rattle.object_txn.specs.Endings.{GivesEach}
 use Rattle.object_txn.specs.Tied.{IsTied}
 use Rattle.object_txn.proofs.StoreFacts.{continues}
 use Rattle.object_txn.proofs.Explaining.{explains_later}
@@ -18,3 +20,12 @@ returns-in-Err-clause-explained g c =
     let self = c.args.self.now in
     explains_later self.window.now.shape self.rank.now.view c.read_at.new.rank.view c.abort.new.self.rank.now.view c.in-Err.why
     c.abort.ensures.follows c.in-Err.ensures.refused
+
+pub returns-in-Err-clause-given : goal.returns-in-Err-clause-given
+returns-in-Err-clause-given g c =
+    let back = c.abort.ensures.given in record {
+      left = back.left;
+      private = back.private ∙ c.read_at.ensures.private;
+      spares = back.spares ∙ c.read_at.ensures.spares;
+      given = subst (λ (items : List Place). GivesEach items back.left c.abort.new.self.rank.now) (ap (λ taken. taken.items) c.read_at.ensures.taken) back.given;
+    }

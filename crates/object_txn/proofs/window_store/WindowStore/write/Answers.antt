@@ -1,5 +1,7 @@
-use Rattle.std.proofs.Common.{rules, ◌∙◌}
+use Rattle.std.proofs.Common.{rules, ◌≡◌, List, ap, ◌∙◌, subst}
 use Rattle.window_rule.specs.Trails.{Follows}
+use Rattle.rma_layout.specs.Placement.{Place}
+use Rattle.object_txn.specs.Endings.{GivesEach}
 use Rattle.object_txn.specs.Tied.{IsTied}
 use Rattle.object_txn.proofs.StoreFacts.{continues, may_be_written}
 use Rattle.object_txn.proofs.Explaining.{explains_later}
@@ -23,3 +25,12 @@ pub write_at-requires-clause-may : goal.write_at-requires-clause-may
 write_at-requires-clause-may g c =
     let self = c.args.self.now in
     may_be_written g.L.Law.fits self.window.now self.rank.now self.txn c.args.at self.tied c.requires.may
+
+pub returns-in-Err-clause-given : goal.returns-in-Err-clause-given
+returns-in-Err-clause-given g c =
+    let back = c.abort.ensures.given in record {
+      left = back.left;
+      private = back.private ∙ c.write_at.ensures.private;
+      spares = back.spares ∙ c.write_at.ensures.spares;
+      given = subst (λ (items : List Place). GivesEach items back.left c.abort.new.self.rank.now) (ap (λ taken. taken.items) c.write_at.ensures.taken) back.given;
+    }
