@@ -11,7 +11,7 @@ fn a_transaction_reads_and_finishes(rt: HostRuntime) -> Result<(), Fail> {
     let geometry = Geometry::new(1, 8, 8, 2, 2)?;
     let (window, mut rank) = Window::<Anything>::new(rt.alloc(), geometry)?;
     let mut store = WindowStore::over(rt.alloc(), &window, &mut rank);
-    assert!(rt; store.geometry() == geometry);
+    assert_eq!(rt; store.geometry().blocks(), 8);
     store.stays_sound();
     let Ok(()) = store.begin(false) else {
         panic!(rt; "begun")
@@ -44,7 +44,7 @@ fn a_transaction_writes_and_aborts(rt: HostRuntime) -> Result<(), Fail> {
     let Ok(own) = store.read(made) else {
         panic!(rt; "read")
     };
-    assert_eq!(rt; own.as_slice(), &[7]);
+    assert!(rt; own.len() == 1 && *own.at(0) == 7);
     store.abort();
     let Ok(()) = store.begin(true) else {
         panic!(rt; "begun again")

@@ -1,4 +1,4 @@
-use Rattle.std.proofs.Common.{refl, sym, ap, ◌∙◌}
+use Rattle.std.proofs.Common.{ap, ◌∙◌}
 use Rattle.window_rule.specs.View.{View}
 use Rattle.object_txn.proofs.ending.end_all.Goals as goal
 

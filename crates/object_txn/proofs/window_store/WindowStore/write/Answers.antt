@@ -1,4 +1,4 @@
-use Rattle.std.proofs.Common.{rules, ◌≡◌, List, ap, ◌∙◌, subst}
+use Rattle.std.proofs.Common.{rules, List, ap, ◌∙◌, subst}
 use Rattle.window_rule.specs.Trails.{Follows}
 use Rattle.rma_layout.specs.Placement.{Place}
 use Rattle.object_txn.specs.Endings.{GivesEach}
