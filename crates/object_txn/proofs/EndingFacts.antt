@@ -1,16 +1,17 @@
 -- What is left where a transaction ends.
-use Rattle.std.proofs.Common.{◌≡◌, ◌≢◌, ◌+◌, ◌<◌, ◌≤◌, List, [], ◌∷◌, ◌++◌, length, ◌⊎◌, inl, inr, sym, ap, ◌∙◌, arith, length-append, None}
+use Rattle.std.proofs.Common.{◌≡◌, ◌≢◌, ◌+◌, ◌<◌, ◌≤◌, List, [], ◌∷◌, ◌++◌, length, ◌⊎◌, inl, inr, sym, ap, ◌∙◌, subst, arith, length-append, None}
 use Rattle.rma_layout.specs.Shape.{Shape}
 use Rattle.rma_layout.specs.Placement.{Place, same_place}
 use Rattle.object_words.specs.Blocks.{one_if}
-use Rattle.window_rule.specs.View.{View}
+use Rattle.window_rule.specs.View.{View, Locks}
 use Rattle.window_rule.specs.Locks.{hold_of}
 use Rattle.window_rule.specs.Partition.{times}
 use Rattle.window_rule.proofs.JoinSteps.{times-append}
 use Rattle.window_rule.proofs.LockLemmas.{same_place-refl}
-use Rattle.fabric.specs.Window.{RankModel}
+use Rattle.fabric.specs.Window.{RankModel, WindowModel}
 use Rattle.block_pool.specs.Gives.{Frees, IsForUse, Keeps, MayGive, OnlyBlocks}
-use Rattle.object_txn.specs.Tied.{HasTaken}
+use Rattle.object_txn.specs.declared.txn.Txn.{Txn}
+use Rattle.object_txn.specs.Tied.{HasTaken, IsClosed, IsFree, IsNone, IsTied}
 
 -- the last of some blocks, and the others
 module _ (items more : List Place) (block : Place) (is : items ≡ more ++ block ∷ []) where
@@ -71,3 +72,10 @@ module _ {N : Type 0} where
   may_give shape rank items more block is taken left clean =
       let there = last_there items more block is in
       record { own = taken.own block there; no_spare = taken.no_spare block there; left = left; clean = clean }
+
+-- a rank that is tied to no transaction is free
+pub free_by : {N : Type 0} (window : WindowModel) (rank : RankModel N) (txn : Txn) → IsTied window rank txn → IsNone txn → IsFree rank.view
+free_by window rank txn tied none = record {
+  locks = λ object. tied.locks.same object ∙ ap (λ (h : Locks). hold_of h object) none.held;
+  closed = subst (IsClosed rank.view) none.phase tied.closed;
+}

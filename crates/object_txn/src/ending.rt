@@ -8,7 +8,7 @@ ghost use Rattle.block_pool.specs.Gives.{OnlyBlocks};
 ghost use Rattle.object_store.specs.declared.phase.Phase.TheVariants.{Writing};
 ghost use Rattle.object_txn.specs.Endings.{GivesBack, GivesEach};
 ghost use Rattle.object_txn.specs.State.{gate_of};
-ghost use Rattle.object_txn.specs.Tied.{HasTaken, IsNone, IsTied};
+ghost use Rattle.object_txn.specs.Tied.{HasTaken, IsFree, IsNone, IsTied};
 
 use crate::txn::Txn;
 use block_pool::give;
@@ -24,6 +24,7 @@ pub(crate) fn end_all<L: Law>(window: &Window<L>, rank: &mut Rank<L>, txn: &mut 
     requires tied { IsTied window.now rank.old txn.old }
     ensures tied { IsTied window.now rank.new txn.new }
     ensures ended { IsNone txn.new }
+    ensures free { IsFree rank.new.view }
     ensures given { GivesBack txn.old.taken.items rank.old rank.new }
     ensures seen { rank.new.view.seen ≡ rank.old.view.seen }
     ensures spares { txn.old.phase ≢ Writing → rank.new.spares ≡ rank.old.spares }

@@ -98,6 +98,7 @@ impl<'a, L: Law> WindowStore<'a, L> {
         ensures refused { IfErr result (λ why. RefusesAccess at (window_state self.old.window.now self.old.rank.now self.old.txn) (window_state self.new.window.now self.new.rank.now self.new.txn) (said_by why)) }
         ensures explained { IfErr result (λ why. Explains self.old.window.now.shape self.old.rank.now.view self.new.rank.now.view why) }
         ensures given { OnErr result (GivesBack self.old.txn.taken.items self.old.rank.now self.new.rank.now) }
+        ensures free { OnErr result (IsFree self.new.rank.now.view) }
         ensures follows { Follows self.old.rank.now.view self.new.rank.now.view }
     {
         match read_at(self.window, self.rank, &mut self.txn, self.alloc, at) {
@@ -124,6 +125,7 @@ impl<'a, L: Law> WindowStore<'a, L> {
         ensures refused { IfErr result (λ why. RefusesAccess at (window_state self.old.window.now self.old.rank.now self.old.txn) (window_state self.new.window.now self.new.rank.now self.new.txn) (said_by why)) }
         ensures explained { IfErr result (λ why. Explains self.old.window.now.shape self.old.rank.now.view self.new.rank.now.view why) }
         ensures given { OnErr result (GivesBack self.old.txn.taken.items self.old.rank.now self.new.rank.now) }
+        ensures free { OnErr result (IsFree self.new.rank.now.view) }
         ensures follows { Follows self.old.rank.now.view self.new.rank.now.view }
     {
         match write_at(self.window, self.rank, &mut self.txn, at, words) {
@@ -146,6 +148,7 @@ impl<'a, L: Law> WindowStore<'a, L> {
         ensures done { IfOk result (λ made. MakesObject home (window_state self.old.window.now self.old.rank.now self.old.txn) (window_state self.new.window.now self.new.rank.now self.new.txn) made) }
         ensures refused { IfErr result (λ why. RefusesFresh home (window_state self.old.window.now self.old.rank.now self.old.txn) (window_state self.new.window.now self.new.rank.now self.new.txn) (said_by why)) }
         ensures explained { IfErr result (λ why. Explains self.old.window.now.shape self.old.rank.now.view self.new.rank.now.view why) }
+        ensures free { OnErr result (IsFree self.new.rank.now.view) }
         ensures follows { Follows self.old.rank.now.view self.new.rank.now.view }
     {
         match make(self.window, self.rank, &mut self.txn, self.alloc, home) {
@@ -165,6 +168,7 @@ impl<'a, L: Law> WindowStore<'a, L> {
         requires { self.old.txn.phase ≡ Reading }
         ensures keeps { Continues L.fits (window_state self.old.window.now self.old.rank.now self.old.txn) (window_state self.new.window.now self.new.rank.now self.new.txn) }
         ensures done { Finishes (window_state self.old.window.now self.old.rank.now self.old.txn) (window_state self.new.window.now self.new.rank.now self.new.txn) result }
+        ensures free { IsFree self.new.rank.now.view }
         ensures follows { Follows self.old.rank.now.view self.new.rank.now.view }
     {
         let place = self.rank.place(self.window);
@@ -179,6 +183,7 @@ impl<'a, L: Law> WindowStore<'a, L> {
         ensures keeps { Continues L.fits (window_state self.old.window.now self.old.rank.now self.old.txn) (window_state self.new.window.now self.new.rank.now self.new.txn) }
         ensures done { Aborts (window_state self.old.window.now self.old.rank.now self.old.txn) (window_state self.new.window.now self.new.rank.now self.new.txn) }
         ensures given { GivesBack self.old.txn.taken.items self.old.rank.now self.new.rank.now }
+        ensures free { IsFree self.new.rank.now.view }
         ensures follows { Follows self.old.rank.now.view self.new.rank.now.view }
     {
         end_all(self.window, self.rank, &mut self.txn);

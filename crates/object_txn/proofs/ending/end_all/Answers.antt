@@ -1,5 +1,7 @@
-use Rattle.std.proofs.Common.{ap, ◌∙◌}
+use Rattle.std.proofs.Common.{rules, ap, ◌∙◌}
 use Rattle.window_rule.specs.View.{View}
+use Rattle.object_txn.specs.Tied.{IsTied}
+use Rattle.object_txn.proofs.EndingFacts.{free_by}
 use Rattle.object_txn.proofs.ending.end_all.Goals as goal
 
 pub returns-clause-given : goal.returns-clause-given
@@ -9,3 +11,8 @@ returns-clause-given g c = record {
   spares = c.leave_gate.ensures.spares ∙ c.leave_all.ensures.spares;
   given = c.give_all.ensures.given;
 }
+
+pub returns-clause-free : goal.returns-clause-free
+returns-clause-free g c =
+    let tied : IsTied c.args.window.now c.give_all.new.rank c.end.new.self = search rules in
+    free_by c.args.window.now c.give_all.new.rank c.end.new.self tied c.end.ensures
