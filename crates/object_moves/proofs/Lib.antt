@@ -1,3 +1,4 @@
 pub mod Chains
 pub mod HeldMaps
 pub mod LeavingFacts
+pub mod Settling

@@ -1,3 +1,4 @@
 pub mod Loads
 pub mod Held
 pub mod Leaves
+pub mod Stores

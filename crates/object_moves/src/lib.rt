@@ -4,6 +4,7 @@
 mod held;
 mod leaving;
 mod loading;
+mod storing;
 
 pub use held::{HeldObjects, Mode};
 pub use leaving::leave_all;
