@@ -1,4 +1,4 @@
-use Rattle.std.proofs.Common.{◌≡◌, ap, ◌∙◌, subst, sym, arith}
+use Rattle.std.proofs.Common.{◌≡◌, ap, ◌∙◌, subst, sym, arith, Some}
 use Rattle.std.specs.Option.{unwrap_or}
 use Rattle.std.proofs.lemmas.Option.{get_or_from_slice_get}
 use Rattle.rma_layout.specs.Placement.{IsBlock, metadata}
@@ -20,7 +20,12 @@ settle-requires-clause-may g c =
     (subst (MayPut c.args.rank.now.view) (get_or_from_slice_get c.args.blocks.now c.loop-j.j c.at.result.now metadata c.at.ensures) (c.requires.may c.loop-j.j c.loop-j-test.true))
 
 pub settle-requires-clause-known : goal.settle-requires-clause-known
-settle-requires-clause-known g c = λ w is. ?
+settle-requires-clause-known g c = λ w is.
+    let j = c.loop-j.j in
+    let known = link_known c.args.blocks.now c.args.kept j w (sym c.link-in-loop-j.ensures ∙ is) in
+    let block = get_or_from_slice_get c.args.blocks.now j c.at.result.now metadata c.at.ensures in
+    ap (λ b. cell_of c.loop-j.rank.view.cells b 0) (sym block)
+    ∙ (c.loop-j.invariant.linked.still j c.loop-j-test.true (omega arith) ∙ (c.requires.stand j known.0 ∙ ap Some known.1))
 
 pub loop-j-preserved : goal.loop-j-preserved
 loop-j-preserved g c =
