@@ -1,37 +1,22 @@
-ghost use Rattle.std.specs.Prelude.{◌≡◌, OnOk};
-ghost use Rattle.object_store.specs.declared.phase.Phase.TheVariants.{Idle, Writing};
+ghost use Rattle.std.specs.Prelude.{◌≡◌};
+ghost use Rattle.object_store.specs.declared.phase.Phase.TheVariants.{Idle};
 
 use crate::keeping::Keeping;
 use edge_ops::{FoundEdge, cut, lines, load};
-use gdi_kinds::{Dir, EdgeList, Reply};
+use gdi_kinds::{Dir, Reply};
 use object_store::{PlainStore, Store};
 use object_words::Words;
 use rma_layout::Geometry;
 use std::alloc::Global;
 use std::test::Fail;
 
-/// What calls on an edge between two vertices answer, and the words of the vertices before the edge is cut and afterwards.
-#[derive(Debug, Drop)]
-struct Answers {
-    made: Reply,
-    found: Option<FoundEdge>,
-    lines: EdgeList,
-    source: Words,
-    target: Words,
-    cut: Reply,
-    cut_again: Reply,
-    found_no_more: Option<FoundEdge>,
-    source_then: Words,
-    target_then: Words,
-}
-
-/// Makes an edge between new vertices, loads and lists it, and cuts it twice.
-fn make_and_cut<S: Store<Keeping>>(
+/// An edge between two new vertices: its ordinal, and the words of both.
+fn make_edge<S: Store<Keeping>>(
     alloc: Global,
     store: &mut S,
     label: Option<u32>,
     undirected: bool,
-) -> Result<Option<Answers>, S::Refused>
+) -> Result<Option<(u64, Words, Words)>, S::Refused>
     requires { (S.state store.old).phase ≡ Idle }
 {
     store.begin(true)?;
@@ -42,31 +27,57 @@ fn make_and_cut<S: Store<Keeping>>(
         store.abort();
         return Ok(None);
     };
-    let source_words = store.read(source)?;
-    let target_words = store.read(target)?;
+    let at_source = store.read(source)?;
+    let at_target = store.read(target)?;
+    store.abort();
+    Ok(Some((ordinal, at_source, at_target)))
+}
+
+/// What is answered of an edge that is cut twice, and the words of its ends then.
+#[derive(Debug, Drop)]
+struct Answers {
+    found: Option<FoundEdge>,
+    cut: Reply,
+    cut_again: Reply,
+    found_again: Option<FoundEdge>,
+    at_source: Words,
+    at_target: Words,
+}
+
+/// Makes an edge between new vertices, loads it, cuts it twice and loads it again.
+fn cut_edge<S: Store<Keeping>>(
+    alloc: Global,
+    store: &mut S,
+    label: Option<u32>,
+) -> Result<Option<Answers>, S::Refused>
+    requires { (S.state store.old).phase ≡ Idle }
+{
+    store.begin(true)?;
+    let source = vertex_ops::make(alloc, store, 1)?;
+    let target = vertex_ops::make(alloc, store, 2)?;
+    let made = edge_ops::make(alloc, store, source, target, label, false)?;
+    let Reply::EdgeIs(_, ordinal) = made else {
+        store.abort();
+        return Ok(None);
+    };
     let found = load(alloc, store, source, ordinal)?;
-    let listed = lines(alloc, store, source, Dir::Either)?;
-    let answer = cut(alloc, store, source, ordinal)?;
+    let done = cut(alloc, store, source, ordinal)?;
     let again = cut(alloc, store, source, ordinal)?;
-    let found_no_more = load(alloc, store, source, ordinal)?;
-    let source_then = store.read(source)?;
-    let target_then = store.read(target)?;
+    let found_again = load(alloc, store, source, ordinal)?;
+    let at_source = store.read(source)?;
+    let at_target = store.read(target)?;
     store.abort();
     Ok(Some(Answers {
-        made,
         found,
-        lines: listed,
-        source: source_words,
-        target: target_words,
-        cut: answer,
+        cut: done,
         cut_again: again,
-        found_no_more,
-        source_then,
-        target_then,
+        found_again,
+        at_source,
+        at_target,
     }))
 }
 
-/// A loop of a vertex: how many lines it has, what a cut answers, and how many there are then.
+/// An undirected loop of a vertex: how many lines it has, what its cut answers, and how many there are then.
 fn cut_loop<S: Store<Keeping>>(
     alloc: Global,
     store: &mut S,
@@ -89,41 +100,37 @@ fn cut_loop<S: Store<Keeping>>(
 }
 
 #[test]
-fn edge(rt: HostRuntime) -> Result<(), Fail> {
+fn records(rt: HostRuntime) -> Result<(), Fail> {
     let mut store = PlainStore::<Keeping>::new(rt.alloc(), Geometry::standard())?;
-    let Ok(Some(found)) = make_and_cut(rt.alloc(), &mut store, Some(0), false) else {
+    let Ok(Some((ordinal, at_source, at_target))) = make_edge(rt.alloc(), &mut store, Some(0), true)
+    else {
         return Err("refused".into());
     };
-    assert!(rt; matches!(&found.made, Reply::EdgeIs(1, 0)));
-    assert_eq!(rt; found.source.as_slice().len(), 10);
-    assert_eq!(rt; found.source.as_slice()[5], 0);
-    assert_eq!(rt; found.source.as_slice()[9], 1);
-    assert_eq!(rt; found.target.as_slice()[5], 1);
-    assert_eq!(rt; found.target.as_slice()[9], 1);
-    assert_eq!(rt; found.lines.len(), 1);
-    let Some(edge) = &found.found else {
-        return Err("no edge".into());
-    };
-    assert!(rt; !edge.undirected);
-    assert_eq!(rt; edge.holder.target, 2);
-    assert_eq!(rt; edge.holder.labels.as_slice(), [0].as_slice());
-    assert!(rt; matches!(&found.cut, Reply::Done));
-    assert!(rt; matches!(&found.cut_again, Reply::NoEdge));
-    assert!(rt; found.found_no_more.is_none());
-    assert_eq!(rt; found.source_then.as_slice(), [1, 1, 0, 0, 0].as_slice());
-    assert_eq!(rt; found.target_then.as_slice(), [2, 0, 0, 0, 0].as_slice());
+    assert_eq!(rt; ordinal, 0);
+    // The undirected edge's direction, ordinal, other end with its object, and form.
+    assert!(rt; matches!(at_source.as_slice(), [1, 1, 0, 0, 1, 2, 0, 2, _, 1]));
+    assert!(rt; matches!(at_target.as_slice(), [2, 0, 0, 0, 1, 3, 0, 1, _, 1]));
     Ok(())
 }
 
 #[test]
-fn undirected_edge(rt: HostRuntime) -> Result<(), Fail> {
+fn edge(rt: HostRuntime) -> Result<(), Fail> {
     let mut store = PlainStore::<Keeping>::new(rt.alloc(), Geometry::standard())?;
-    let Ok(Some(found)) = make_and_cut(rt.alloc(), &mut store, None, true) else {
+    let Ok(Some(found)) = cut_edge(rt.alloc(), &mut store, Some(0)) else {
         return Err("refused".into());
     };
-    assert_eq!(rt; found.source.as_slice()[5], 2);
-    assert_eq!(rt; found.target.as_slice()[5], 3);
+    let Some(edge) = &found.found else {
+        return Err("no edge".into());
+    };
+    assert!(rt; !edge.undirected);
+    assert_eq!(rt; edge.holder.source, 1);
+    assert_eq!(rt; edge.holder.target, 2);
+    assert_eq!(rt; edge.holder.labels.as_slice(), [0].as_slice());
     assert!(rt; matches!(&found.cut, Reply::Done));
+    assert!(rt; matches!(&found.cut_again, Reply::NoEdge));
+    assert!(rt; found.found_again.is_none());
+    assert_eq!(rt; found.at_source.as_slice(), [1, 1, 0, 0, 0].as_slice());
+    assert_eq!(rt; found.at_target.as_slice(), [2, 0, 0, 0, 0].as_slice());
     Ok(())
 }
 
