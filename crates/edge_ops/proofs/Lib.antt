@@ -10,3 +10,4 @@ pub mod NewEdge
 pub mod EdgeCut
 pub mod LinesOfGraph
 pub mod EdgesOfGraph
+pub mod Replacing

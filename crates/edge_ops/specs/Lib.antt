@@ -7,3 +7,4 @@ pub mod Ending
 pub mod Loading
 pub mod Opening
 pub mod Cutting
+pub mod Keeping

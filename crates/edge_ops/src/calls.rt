@@ -1,4 +1,5 @@
 pub mod cut;
+pub mod keep;
 pub mod lines;
 pub mod load;
 pub mod make;

@@ -4,6 +4,7 @@
 mod beside;
 mod calls;
 mod ends;
+mod forms;
 mod found_edge;
 mod laws;
 mod new_edge;
@@ -14,6 +15,7 @@ mod settle_ends;
 mod without;
 
 pub use calls::cut::cut;
+pub use calls::keep::keep;
 pub use calls::lines::lines;
 pub use calls::load::load;
 pub use calls::make::make;
