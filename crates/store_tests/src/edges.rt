@@ -1,12 +1,15 @@
-ghost use Rattle.std.specs.Prelude.{◌≡◌};
-ghost use Rattle.object_store.specs.declared.phase.Phase.TheVariants.{Idle};
+ghost use Rattle.std.specs.Prelude.{◌≡◌, IfOk, MatchOption, OnOk};
+ghost use Rattle.rma_layout.specs.Placement.{IsBlock};
+ghost use Rattle.object_store.specs.declared.phase.Phase.TheVariants.{Idle, Writing};
+ghost use Rattle.held_objects.specs.Changes.{any};
+ghost use Rattle.edge_ops.specs.HeldEdges.{KnowsOut};
 
 use crate::keeping::Keeping;
 use edge_ops::{FoundEdge, cut, lines, load};
 use gdi_kinds::{Dir, Reply};
 use object_store::{PlainStore, Store};
 use object_words::Words;
-use rma_layout::Geometry;
+use rma_layout::{DPtr, Geometry};
 use std::alloc::Global;
 use std::test::Fail;
 
@@ -33,48 +36,90 @@ fn make_edge<S: Store<Keeping>>(
     Ok(Some((ordinal, at_source, at_target)))
 }
 
-/// What is answered of an edge that is cut twice, and the words of its ends then.
+/// Two vertices and an edge between them.
+#[derive(Debug, Drop)]
+struct Between {
+    source: DPtr,
+    target: DPtr,
+    ordinal: u64,
+}
+
+/// Makes an edge between new vertices.
+fn make_between<S: Store<Keeping>>(
+    alloc: Global,
+    store: &mut S,
+    label: Option<u32>,
+) -> Result<Option<Between>, S::Refused>
+    requires begun { (S.state store.old).phase ≡ Writing }
+    ensures begun { OnOk result ((S.state store.new).phase ≡ Writing) }
+    ensures made { IfOk result (λ made. MatchOption made (Unit {0}) (λ made. IsBlock (S.state store.new).shape made.source
+        × IsBlock (S.state store.new).shape made.target × KnowsOut made.source made.ordinal any (S.state store.new))) }
+{
+    let source = vertex_ops::make(alloc, store, 1)?;
+    let target = vertex_ops::make(alloc, store, 2)?;
+    let made = edge_ops::make(alloc, store, source, target, label, false)?;
+    let Reply::EdgeIs(_, ordinal) = made else {
+        return Ok(None);
+    };
+    Ok(Some(Between {
+        source,
+        target,
+        ordinal,
+    }))
+}
+
+/// What is answered of an edge that is cut twice.
 #[derive(Debug, Drop)]
 struct Answers {
     found: Option<FoundEdge>,
     cut: Reply,
     cut_again: Reply,
     found_again: Option<FoundEdge>,
-    at_source: Words,
-    at_target: Words,
 }
 
-/// Makes an edge between new vertices, loads it, cuts it twice and loads it again.
-fn cut_edge<S: Store<Keeping>>(
+/// Loads an edge, cuts it twice and loads it again.
+fn load_and_cut<S: Store<Keeping>>(
     alloc: Global,
     store: &mut S,
-    label: Option<u32>,
-) -> Result<Option<Answers>, S::Refused>
-    requires { (S.state store.old).phase ≡ Idle }
+    source: DPtr,
+    ordinal: u64,
+) -> Result<Answers, S::Refused>
+    requires begun { (S.state store.old).phase ≡ Writing }
+    requires object { IsBlock (S.state store.old).shape source }
+    requires edge { KnowsOut source ordinal any (S.state store.old) }
+    ensures begun { OnOk result ((S.state store.new).phase ≡ Writing) }
+    ensures object { OnOk result ((S.state store.new).shape ≡ (S.state store.old).shape) }
 {
-    store.begin(true)?;
-    let source = vertex_ops::make(alloc, store, 1)?;
-    let target = vertex_ops::make(alloc, store, 2)?;
-    let made = edge_ops::make(alloc, store, source, target, label, false)?;
-    let Reply::EdgeIs(_, ordinal) = made else {
-        store.abort();
-        return Ok(None);
-    };
     let found = load(alloc, store, source, ordinal)?;
     let done = cut(alloc, store, source, ordinal)?;
     let again = cut(alloc, store, source, ordinal)?;
     let found_again = load(alloc, store, source, ordinal)?;
-    let at_source = store.read(source)?;
-    let at_target = store.read(target)?;
-    store.abort();
-    Ok(Some(Answers {
+    Ok(Answers {
         found,
         cut: done,
         cut_again: again,
         found_again,
-        at_source,
-        at_target,
-    }))
+    })
+}
+
+/// Makes an edge between new vertices, loads it, cuts it twice and loads it again; and the words of its ends then.
+fn cut_edge<S: Store<Keeping>>(
+    alloc: Global,
+    store: &mut S,
+    label: Option<u32>,
+) -> Result<Option<(Answers, Words, Words)>, S::Refused>
+    requires { (S.state store.old).phase ≡ Idle }
+{
+    store.begin(true)?;
+    let Some(made) = make_between(alloc, store, label)? else {
+        store.abort();
+        return Ok(None);
+    };
+    let answers = load_and_cut(alloc, store, made.source, made.ordinal)?;
+    let at_source = store.read(made.source)?;
+    let at_target = store.read(made.target)?;
+    store.abort();
+    Ok(Some((answers, at_source, at_target)))
 }
 
 /// An undirected loop of a vertex: how many lines it has, what its cut answers, and how many there are then.
@@ -116,7 +161,7 @@ fn records(rt: HostRuntime) -> Result<(), Fail> {
 #[test]
 fn edge(rt: HostRuntime) -> Result<(), Fail> {
     let mut store = PlainStore::<Keeping>::new(rt.alloc(), Geometry::standard())?;
-    let Ok(Some(found)) = cut_edge(rt.alloc(), &mut store, Some(0)) else {
+    let Ok(Some((found, at_source, at_target))) = cut_edge(rt.alloc(), &mut store, Some(0)) else {
         return Err("refused".into());
     };
     let Some(edge) = &found.found else {
@@ -129,8 +174,8 @@ fn edge(rt: HostRuntime) -> Result<(), Fail> {
     assert!(rt; matches!(&found.cut, Reply::Done));
     assert!(rt; matches!(&found.cut_again, Reply::NoEdge));
     assert!(rt; found.found_again.is_none());
-    assert_eq!(rt; found.at_source.as_slice(), [1, 1, 0, 0, 0].as_slice());
-    assert_eq!(rt; found.at_target.as_slice(), [2, 0, 0, 0, 0].as_slice());
+    assert_eq!(rt; at_source.as_slice(), [1, 1, 0, 0, 0].as_slice());
+    assert_eq!(rt; at_target.as_slice(), [2, 0, 0, 0, 0].as_slice());
     Ok(())
 }
 
