@@ -74,7 +74,7 @@ fn keep_heavy<L: KeepsGraph, S: Store<L>>(
         return store.write(own, words);
     }
     // It stands on the rank of the edge's source, as the source does.
-    let own = store.fresh(source.rank)?;
+    let own = store.fresh(source.rank())?;
     set_form(alloc, store, source, opened, EdgeForm::Heavy(own))?;
     store.write(own, words)
 }
