@@ -63,6 +63,11 @@ impl HeldEdge {
         self.undirected
     }
 
+    /// Whether it has an object of its own.
+    pub(crate) fn is_heavy(&self) -> bool {
+        self.labels.len() > 1 || self.props.count() > 0
+    }
+
     /// How many labels it has.
     pub(crate) fn label_count(&self) -> u64
         ensures value { result ≡ length self.now.labels }

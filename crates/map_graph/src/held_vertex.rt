@@ -76,6 +76,13 @@ impl HeldVertex {
         self.labels.len() as u64 + 1
     }
 
+    /// The numbers of its labels.
+    pub(crate) fn labels(&self) -> &BTreeSet<u32, Global>
+        ensures { result.now.keys ≡ self.now.labels }
+    {
+        &self.labels
+    }
+
     pub(crate) fn has_label(&self, label: u32) -> bool
         ensures { result ≡ has self.now.labels label }
     {

@@ -42,6 +42,11 @@ impl Journal {
         Ok(())
     }
 
+    /// The steps, the first one noted first.
+    pub(crate) fn steps(&self) -> &[Undo] {
+        self.steps.as_slice()
+    }
+
     /// Takes the last step out, if there is one.
     pub(crate) fn pop(&mut self) -> Option<Undo>
         ensures { MatchOption result ((self.old ≡ []) × (self.new ≡ [])) (λ step. self.old ≡ self.new ++ undo_of step ∷ []) }

@@ -18,6 +18,7 @@ mod props;
 mod restore;
 mod sizes;
 mod tags;
+mod touched;
 mod vertices;
 
 use crate::ModelRefused;

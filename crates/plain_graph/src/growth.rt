@@ -1,0 +1,26 @@
+use map_graph::ObjectName;
+
+/// An object that calls touched: its blocks before and after them, 0 where it wasn't there, and whether it was there all
+/// along.
+#[derive(Clone, Copy, Debug)]
+pub(crate) struct Growth {
+    pub(crate) object: ObjectName,
+    pub(crate) rank: u64,
+    pub(crate) before: u64,
+    pub(crate) after: u64,
+    pub(crate) stayed: bool,
+}
+
+impl Growth {
+    /// How many blocks it takes besides its first: one that stayed grows, and any other was made.
+    pub(crate) fn blocks(&self) -> u64 {
+        if self.after == 0 {
+            return 0;
+        }
+        if self.stayed {
+            self.after.saturating_sub(self.before)
+        } else {
+            self.after - 1
+        }
+    }
+}
