@@ -8,10 +8,12 @@ mod held_type;
 mod held_vertex;
 mod journal;
 mod map_graph;
+mod object_name;
 mod refused;
 mod tally;
 mod undo;
 
 pub use journal::Journal;
 pub use map_graph::MapGraph;
+pub use object_name::ObjectName;
 pub use refused::ModelRefused;
