@@ -2,3 +2,4 @@ pub mod Counts
 pub mod Plain
 pub mod Lines
 pub mod Noted
+pub mod Named

@@ -14,6 +14,7 @@ mod looks;
 mod names;
 mod noted;
 mod notes;
+mod objects;
 mod props;
 mod restore;
 mod sizes;

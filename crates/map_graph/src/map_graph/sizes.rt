@@ -49,32 +49,16 @@ impl MapGraph {
     pub fn bucket_words(&self, id: u64) -> Result<u64, ModelRefused>
         ensures { IfOk result (λ words. words ≡ words_of_bucket self.now.shape self.now.graph (bucket_of self.now.shape id)) }
     {
-        if self.torn {
-            return Err(ModelRefused::NoMemory);
-        }
-        // In these ranges distinct buckets have distinct pointers.
-        self.geometry.keeps_ranges();
-        let led_to = self.bucket_counts.count(self.geometry.bucket(id).raw());
-        if led_to > MOST_WORDS {
-            return Err(ModelRefused::NoMemory);
-        }
-        Ok(2 * led_to)
+        let words = self.words_of_bucket(self.geometry.bucket(id))?;
+        Ok(words)
     }
 
     /// The words of the object of the index that keeps a label of an identifier.
     pub fn slot_words(&self, label: u32, id: u64) -> Result<u64, ModelRefused>
         ensures { IfOk result (λ words. words ≡ words_of_slot self.now.shape self.now.graph (slot_of self.now.shape label id)) }
     {
-        if self.torn {
-            return Err(ModelRefused::NoMemory);
-        }
-        // In these ranges distinct objects have distinct pointers.
-        self.geometry.keeps_ranges();
-        let kept = self.slot_counts.count(self.geometry.slot(label, id).raw());
-        if kept > MOST_WORDS {
-            return Err(ModelRefused::NoMemory);
-        }
-        Ok(2 * kept)
+        let words = self.words_of_slot(self.geometry.slot(label, id))?;
+        Ok(words)
     }
 
     /// The words of the object of the names.
