@@ -6,49 +6,11 @@ use crate::journal::Journal;
 use crate::object_name::ObjectName;
 use crate::undo::Undo;
 use gdi_kinds::NoMemory;
-use rma_layout::{DPtr, MOST_WORDS};
 use std::alloc::Global;
 use std::collections::BTreeMap;
 
 // Which objects the steps of a journal touch, and what there is of an object.
 impl MapGraph {
-    /// Whether an object is there.
-    pub fn is_object(&self, object: ObjectName) -> bool {
-        match object {
-            ObjectName::Reserved(_, _) => true,
-            ObjectName::Vertex(id) => self.vertex(id).is_some(),
-            ObjectName::HeavyEdge(source, ordinal) => self.is_heavy(source, ordinal),
-        }
-    }
-
-    /// The words of an object that is there.
-    pub fn object_words(&self, object: ObjectName) -> Result<u64, ModelRefused> {
-        match object {
-            ObjectName::Reserved(rank, block) => self.reserved_words(rank, block),
-            ObjectName::Vertex(id) => self.vertex_words(id),
-            ObjectName::HeavyEdge(source, ordinal) => Ok(self.edge_words(source, ordinal)),
-        }
-    }
-
-    fn reserved_words(&self, rank: u16, block: u64) -> Result<u64, ModelRefused> {
-        if block == 0 {
-            return Ok(if rank == 0 { self.names_words() } else { 0 });
-        }
-        if self.torn {
-            return Err(ModelRefused::NoMemory);
-        }
-        let raw = DPtr::new(rank, block).raw();
-        let entries = if block > self.geometry.buckets() {
-            self.slot_counts.count(raw)
-        } else {
-            self.bucket_counts.count(raw)
-        };
-        if entries > MOST_WORDS {
-            return Err(ModelRefused::NoMemory);
-        }
-        Ok(2 * entries)
-    }
-
     /// The objects that the steps touch, and whether each step that names an object's vertex or edge had the object.
     pub fn touched(
         &self,
