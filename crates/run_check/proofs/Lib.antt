@@ -1,2 +1,4 @@
 mod Seen
 mod Numbers
+mod Orders
+mod Failures

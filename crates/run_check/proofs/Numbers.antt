@@ -25,11 +25,11 @@ numbers_more lines line = filter_map-append (λ (l : Line). entry_number l.outco
     alone section txn (Full rank place) = refl
     alone section txn Aborted = refl
 
-all_then : {X : Type 0} (P Q : X → Type 0) → ((x : X) → P x → Q x) → (xs : List X) → AllByRecursion P xs → AllByRecursion Q xs
+pub all_then : {X : Type 0} (P Q : X → Type 0) → ((x : X) → P x → Q x) → (xs : List X) → AllByRecursion P xs → AllByRecursion Q xs
 all_then P Q f [] all = tt
 all_then P Q f (x ∷ xs) all = (f x all.0, all_then P Q f xs all.1)
 
-record AreNumbered (load writes : ℕ) (before lines : List Line) : Type 0 where
+pub record AreNumbered (load writes : ℕ) (before lines : List Line) : Type 0 where
   pub numbers : AllByRecursion (λ k. (load ≤ k) × (k < writes)) (numbers_of lines)
   pub once : IsDistinct (numbers_of lines)
   pub apart : AllByRecursion (λ k. is_among (numbers_of before) k ≡ false) (numbers_of lines)

@@ -2,3 +2,4 @@ pub mod Places
 pub mod Fitting
 pub mod Numbering
 pub mod Ordering
+pub mod Laws

@@ -12,11 +12,7 @@ use std::collections::BTreeSet;
 /// The first outcome whose number or place can't be, behind the load's so many entries: the number of an entry that isn't
 /// among those behind the load's, or stands before; or a reading place among the load's entries, or behind the last. Where no
 /// outcome fails so, but they aren't as many entries as the run says, the place is two zeros.
-pub fn first_misnumbered(
-    alloc: Global,
-    load: u64,
-    run: &Printed,
-) -> Result<Option<Place>, NoMemory>
+pub fn first_misnumbered(alloc: Global, load: u64, run: &Printed) -> Result<Option<Place>, NoMemory>
     ensures { IfOk result (λ first. MatchOption first (IsNumbered load run.now) (FirstMisnumbered load run.now)) }
 {
     let mut seen = BTreeSet::new(alloc);
