@@ -1,5 +1,6 @@
 //! Runs scripts on the plain graph and prints what their calls answer: people and towns, refusals, lists of values,
-//! undirected edges, walks, a graph of 500 vertices and a chain of 2,000. Each script has a graph of its own.
+//! undirected edges, walks, a graph of 500 vertices, a chain of 2,000, vertices that come and go in large buckets, and aborts.
+//! Each script has a graph of its own.
 #![tactic(auto)]
 
 ghost use Rattle.std.specs.Prelude.{OnOk};
@@ -22,7 +23,9 @@ fn main(rt: HostRuntime) -> io::Result<()> {
     run(&rt, "undirected")?;
     run(&rt, "walks")?;
     run(&rt, "many")?;
-    run(&rt, "chain")
+    run(&rt, "chain")?;
+    run(&rt, "buckets")?;
+    run(&rt, "aborts")
 }
 
 // Runs the script of a file and prints its answers.
