@@ -1,2 +1,3 @@
 mod LoadGraphs
 mod SerialIsLegal
+mod Running

@@ -2,5 +2,7 @@
 #![tactic(auto)]
 
 mod law;
+mod runner;
 
 pub use law::serial_runs_are_legal;
+pub use runner::run_script;
