@@ -1,5 +1,5 @@
 -- Names none of which stands twice, and labels that are read one after the other.
-use Rattle.std.proofs.Common.{◌≡◌, ◌≢◌, ℕ, Bool, true, false, not, ◌&&◌, ◌||◌, List, [], ◌∷◌, ◌++◌, refl, sym, ap, subst, ◌∙◌, ◌<◌, length, append_assoc, arith, inl, inr}
+use Rattle.std.proofs.Common.{◌≡◌, ℕ, Bool, true, false, not, ◌&&◌, ◌||◌, List, [], ◌∷◌, ◌++◌, refl, sym, subst, ◌∙◌, ◌<◌, length, append_assoc, arith, inl, inr}
 use Rattle.std.specs.List.{list_any, AllByRecursion}
 use Rattle.std.specs.Str.{bytes_eq}
 use Rattle.std.proofs.lemmas.Bool.{cases_Bool}
@@ -12,22 +12,22 @@ use Rattle.bulk_load.specs.Records.{Fields}
 use Rattle.bulk_load.specs.Headers.{are_apart}
 use Rattle.bulk_load.specs.Fields.{AreLabels, items_of, pieces_of}
 
-both : (a b : Bool) → (a && b) ≡ true → (a ≡ true) × (b ≡ true)
+pub both : (a b : Bool) → (a && b) ≡ true → (a ≡ true) × (b ≡ true)
 both true b e = (refl, e)
 both false b e = let e : false ≡ true = e in absurd (cc)
 
-neither : (a b : Bool) → (a || b) ≡ false → (a ≡ false) × (b ≡ false)
+pub neither : (a b : Bool) → (a || b) ≡ false → (a ≡ false) × (b ≡ false)
 neither false b e = (refl, e)
 neither true b e = let e : true ≡ false = e in absurd (cc)
 
-is_not : (a : Bool) → not a ≡ true → a ≡ false
+pub is_not : (a : Bool) → not a ≡ true → a ≡ false
 is_not false e = refl
 is_not true e = let e : false ≡ true = e in absurd (cc)
 
 joined : (a b : Bool) → a ≡ true → b ≡ true → (a && b) ≡ true
 joined a b x y = rw (x, y) refl
 
-differ_back : (xs ys : List ℕ) → bytes_eq xs ys ≡ false → bytes_eq ys xs ≡ false
+pub differ_back : (xs ys : List ℕ) → bytes_eq xs ys ≡ false → bytes_eq ys xs ≡ false
 differ_back xs ys differ =
     elim (cases_Bool (bytes_eq ys xs)) [
       | inl same ↦ let back : bytes_eq xs ys ≡ true = (bytes_eq-Decides xs ys).1 (sym ((bytes_eq-Decides ys xs).0 same)) in absurd (cc)

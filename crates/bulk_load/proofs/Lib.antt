@@ -6,3 +6,11 @@ pub mod RowLemmas
 pub mod ReadLemmas
 pub mod HeaderLemmas
 pub mod LoadLemmas
+pub mod AloneLemmas
+pub mod SuccessLemmas
+pub mod PlaceLemmas
+pub mod PutLemmas
+pub mod MakingLemmas
+pub mod TypeLemmas
+pub mod SuccessLaw
+pub mod OldLoadLaw

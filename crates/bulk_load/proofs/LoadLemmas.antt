@@ -1,6 +1,5 @@
 -- Records one after the other.
-use Rattle.std.proofs.Common.{◌≡◌, ℕ, ◌+◌, true, false, List, [], ◌∷◌, ◌++◌, length, refl, sym, ap, subst, ◌∙◌, append_assoc, length-append, arith, Bor, Some}
-use Rattle.std.specs.Bool.{MatchBool}
+use Rattle.std.proofs.Common.{◌≡◌, ℕ, ◌+◌, false, List, [], ◌∷◌, ◌++◌, length, refl, sym, ap, subst, ◌∙◌, append_assoc, length-append, arith, Bor, Some}
 use Rattle.std.proofs.lemmas.List.{append-nil}
 use Rattle.csv.specs.declared.reader.Reader.{Reader}
 use Rattle.gdi_kinds.specs.declared.call.Call.{Call}
@@ -18,14 +17,13 @@ use Rattle.bulk_load.specs.Rows.{DoCalls, IsRight, IsWrong}
 use Rattle.bulk_load.specs.Reading.{HasRead}
 use Rattle.csv.specs.Reading.{Reached, source_of, strip_bom, reader_state}
 use Rattle.csv.specs.declared.parser.State.TheVariants as state
-use Rattle.gdi_kinds.specs.declared.txn.Txn.{Txn}
 use Rattle.bulk_load.specs.declared.load_file.LoadFile.{LoadFile}
 use Rattle.bulk_load.specs.declared.load_refused.LoadRefused.{LoadRefused}
 use Rattle.bulk_load.specs.declared.load_refused.LoadRefused.TheVariants as refused
 use Rattle.bulk_load.specs.Loads.{Loads, HasHeader, TellsWrong, new_types, with_types, wrong_record}
 use Rattle.bulk_load.specs.Stops.{DoesRecord, OrNoMemory, FirstWrongBehind, LoadsBehind, TellsBehind, refused_at}
 
-after_both : (shape : Shape) (g : Graph) (xs ys : List Call) → graph_after_calls shape g (xs ++ ys) ≡ graph_after_calls shape (graph_after_calls shape g xs) ys
+pub after_both : (shape : Shape) (g : Graph) (xs ys : List Call) → graph_after_calls shape g (xs ++ ys) ≡ graph_after_calls shape (graph_after_calls shape g xs) ys
 after_both shape g [] ys = refl
 after_both shape g (x ∷ xs) ys = after_both shape (graph_after_call shape g x) xs ys
 

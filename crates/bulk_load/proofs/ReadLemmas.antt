@@ -1,5 +1,5 @@
 -- What a reader of records has given after one read more.
-use Rattle.std.proofs.Common.{◌≡◌, ℕ, Bool, true, false, List, [], ◌∷◌, ◌++◌, Some, ◌<◌, ◌+◌, take, get_or, length, map, Bor, sym, ap, ◌∙◌}
+use Rattle.std.proofs.Common.{◌≡◌, ℕ, Bool, true, false, List, [], ◌∷◌, ◌++◌, Some, ◌<◌, ◌+◌, take, length, Bor, sym, ap, ◌∙◌}
 use Rattle.std.specs.Bool.{MatchBool}
 use Rattle.std.proofs.lemmas.List.{map_push, take_more}
 use Rattle.csv.specs.Reading.{ReadRecord, default_config, reader_config, strip_bom}

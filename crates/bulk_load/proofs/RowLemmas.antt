@@ -1,13 +1,8 @@
 -- What a record says and does.
-use Rattle.std.proofs.Common.{◌≡◌, ◌≢◌, ℕ, Bool, true, false, not, ◌||◌, ◌&&◌, List, [], ◌∷◌, ◌++◌, length, map, take, drop, refl, sym, ap, subst, ◌∙◌, append_assoc, arith, inl, inr, if◌then◌else◌, ◌+◌, ◌-◌, ◌≤◌, length-append, Bor}
-use Rattle.std.specs.Prelude.{Option, Result, Ok, Err, MatchResult, is_some}
-use Rattle.std.specs.List.{filter, list_any, AllByRecursion}
-use Rattle.std.specs.Option.{option_to_list}
+use Rattle.std.proofs.Common.{◌≡◌, ℕ, Bool, true, false, not, List, [], ◌∷◌, ◌++◌, length, map, take, drop, refl, sym, ap, subst, ◌∙◌, append_assoc, arith, inr, ◌+◌, ◌-◌, ◌≤◌, length-append, Bor}
 use Rattle.gdi_kinds.specs.declared.call.Call.{Call}
-use Rattle.gdi_kinds.specs.declared.call.Call.TheVariants.{NewLabel, NewType, Vertex, Tag, Set, Add, ESet, EAdd}
 use Rattle.gdi_kinds.specs.declared.value.Value.{Value}
-use Rattle.graph_model.specs.Graph.{Name, Graph}
-use Rattle.graph_model.specs.Lookups.{label_number, type_number}
+use Rattle.graph_model.specs.Graph.{Graph}
 use Rattle.std.proofs.lemmas.List.{take_rest, drop-map, length-map}
 use Rattle.rma_layout.specs.Shape.{Shape}
 use Rattle.text_words.specs.Forms.{texts}
@@ -19,14 +14,11 @@ use Rattle.bulk_load.specs.declared.load_fault.LoadFault.{LoadFault}
 use Rattle.bulk_load.specs.declared.stop.Stop.{Stop}
 use Rattle.bulk_load.specs.declared.stop.Stop.TheVariants as stop
 use Rattle.bulk_load.specs.declared.owner.Owner.{Owner}
-use Rattle.bulk_load.specs.declared.owner.Owner.TheVariants as owner
 use Rattle.bulk_load.specs.declared.subject.Subject.{Subject}
 use Rattle.bulk_load.specs.declared.subject.Subject.TheVariants as subject
-use Rattle.bulk_load.specs.declared.column.Column.{Column}
 use Rattle.bulk_load.specs.declared.header.Header.{Header}
-use Rattle.bulk_load.specs.Loads.{new_types}
 use Rattle.bulk_load.specs.Records.{Fields}
-use Rattle.bulk_load.specs.Rows.{SaysCalls, IsWrong, misspelled, sorts_of, making, new_labels, put, puts, owner_of, edge_call}
+use Rattle.bulk_load.specs.Rows.{SaysCalls, IsWrong, misspelled, sorts_of, making, puts, owner_of}
 
 -- ---- the fault of a field behind those in front
 

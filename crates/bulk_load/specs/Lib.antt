@@ -7,3 +7,6 @@ pub mod Loads
 pub mod Reading
 pub mod Cuts
 pub mod Stops
+pub mod Alone
+pub mod Laws
+pub mod OldLoads

@@ -1,15 +1,15 @@
 -- What a record does to a graph.
-use Rattle.std.specs.Prelude.{◌≡◌, ◌≢◌, ℕ, ◌+◌, Bool, true, false, not, ◌||◌, List, [], ◌∷◌, ◌++◌, map, length, Option, Some, None, is_some, if◌then◌else◌}
+use Rattle.std.specs.Prelude.{◌≡◌, ◌≢◌, ℕ, Bool, true, false, not, ◌||◌, List, [], ◌∷◌, ◌++◌, map, length, Option, is_some, if◌then◌else◌}
 use Rattle.std.specs.List.{filter, list_any}
 use Rattle.std.specs.Option.{option_map_or, option_to_list}
 use Rattle.gdi_kinds.specs.declared.call.Call.{Call}
-use Rattle.gdi_kinds.specs.declared.call.Call.TheVariants.{NewLabel, NewType, Vertex, Tag, Set, Add, Edge, UEdge, ESet, EAdd}
+use Rattle.gdi_kinds.specs.declared.call.Call.TheVariants.{NewLabel, Vertex, Tag, Set, Add, Edge, UEdge, ESet, EAdd}
 use Rattle.gdi_kinds.specs.declared.reply.Reply.{Reply}
 use Rattle.gdi_kinds.specs.declared.reply.Reply.TheVariants as reply
 use Rattle.gdi_kinds.specs.declared.value.Value.{Value}
 use Rattle.rma_layout.specs.Shape.{Shape}
 use Rattle.graph_model.specs.Graph.{Name, Graph, vertex_at, is_vertex}
-use Rattle.graph_model.specs.Lookups.{label_number, type_number}
+use Rattle.graph_model.specs.Lookups.{label_number}
 use Rattle.graph_model.specs.Transactions.{graph_after_calls, replies_to_calls}
 use Rattle.bulk_load.specs.declared.column.Column.{Column}
 use Rattle.bulk_load.specs.declared.header.Header.{Header}

@@ -6,6 +6,7 @@ mod columns;
 mod front;
 mod header;
 mod header_reader;
+pub mod laws;
 mod lead;
 mod load_fault;
 mod load_file;

@@ -1,9 +1,9 @@
 mod Cuts
 mod Forms
 mod Listed
-mod Meanings
+pub mod Meanings
 mod Parses
-mod Refusals
+pub mod Refusals
 mod Rows
 mod Rules
 mod Settling

@@ -36,7 +36,7 @@ use Rattle.edge_ops.specs.Opening.{ClearsOwn, IsAtRecord, MatchForm, OpensNone, 
 use Rattle.edge_ops.specs.Records.{Key, key_of, key_cmp, record_for, without_record}
 use Rattle.edge_ops.proofs.EdgesFound.{IsOfRecord, edge_there, footprint_is, light_alone, none_there, out_any, own_held, source_known}
 use Rattle.edge_ops.proofs.EndsChanged.{ends_changed, ends_stay}
-use Rattle.edge_ops.proofs.EndsWritten.{same_itself}
+use Rattle.edge_ops.proofs.EndsWritten.{place_is, same_itself}
 use Rattle.edge_ops.proofs.Finding.{found_is}
 use Rattle.edge_ops.proofs.RecordLists.{none_of_key, still_none}
 
@@ -98,6 +98,11 @@ module _ {N : Type 0} {source : Place} {ordinal : ℕ} {old mid : StoreState N} 
         subst (λ (writes : Contents). Holds (HoldsOut old.shape source ordinal) lacks_edge old.shape (overlay store writes)) (sym opened.found.looks.writes)
         (record { part = is.part; has = is.has; passed = ap (λ (o : Option HeldEdge). not (is_some o)) (none_there opened.found store is.part agrees is.has opened.none) }));
     source_known = still opened.found.looks (source_known known);
+    target_known = λ target leads.
+        knows_after opened.found.looks.stays ordered (λ store may agrees.
+        let is = leads.always store may in
+        let none : false ≡ true = subst (λ (o : Option HeldEdge). option_map_or (λ edge. same_place edge.target_at target) o false ≡ true) (none_there opened.found store is.part agrees is.has opened.none) is.passed in
+        absurd (cc none));
   }
     where
       or_beyond : {A B C : Type 0} → A ⊎ C → A ⊎ B ⊎ C
@@ -185,6 +190,17 @@ module _ {N : Type 0} {source : Place} {ordinal : ℕ} {old mid : StoreState N} 
         known = out_any out_known;
         gone = out_known;
         source_known = source_known out_known;
+        target_known = λ target leads.
+            knows_after reaches.stays new_ordered (λ store may agrees.
+            let is = leads.always store may in
+            let it = e store is.part (agreed store agrees) is.has in
+            let here : same_place it.one.target_at target ≡ true = subst (λ (o : Option HeldEdge). option_map_or (λ edge. same_place edge.target_at target) o false ≡ true) it.is is.passed in
+            let at : opened.edge.other_at ≡ target = sym (target_is store is.part (agreed store agrees) is.has) ∙ place_is it.one.target_at target here in
+            record {
+              part = (both_cut store is.part (agreed store agrees) is.has).target;
+              has = subst (λ (place : Place). HoldsVertex place (overlay store new.writes) (both_cut store is.part (agreed store agrees) is.has).target) at (ends_now store is.part (agreed store agrees) is.has opened.edge.form refl cleared).at_target;
+              passed = refl;
+            });
       }
         where
           out_known : KnowsOut source ordinal lacks_edge new

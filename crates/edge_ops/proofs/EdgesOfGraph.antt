@@ -127,15 +127,15 @@ each_some : (types : List PropType) (props : Props) → AllByRecursion (λ entry
 each_some types props all = All-map _ (λ entry. 1 ≤ length entry.1) (λ entry is. (some_and (λ type. AreValues type entry.1) (item_at types entry.0) is).2.some) props all
 
 module _ (shape : Shape) (store : Contents) (g : Graph) (r : Represents shape store g) (ranges : IsInRange shape) where
-  abbrev from_record : EdgeKey × Edge → EdgeRecord
+  abbrev pub from_record : EdgeKey × Edge → EdgeRecord
   from_record entry = represents.record_at_source r.vertices r.edges entry.0 entry.1
 
-  abbrev to_record : EdgeKey × Edge → EdgeRecord
+  abbrev pub to_record : EdgeKey × Edge → EdgeRecord
   to_record entry = represents.record_at_target r.vertices r.edges entry.0 entry.1
 
   -- ---- vertices
 
-  holds_vertex : (id : ℕ) (vertex : Vertex) → vertex_at g id ≡ Some vertex → HoldsVertex (object_of r.vertices id) store (vertex_of_graph g r.vertices r.edges id)
+  pub holds_vertex : (id : ℕ) (vertex : Vertex) → vertex_at g id ≡ Some vertex → HoldsVertex (object_of r.vertices id) store (vertex_of_graph g r.vertices r.edges id)
   holds_vertex id vertex found =
       subst (λ (o : Option Vertex). HoldsVertex (object_of r.vertices id) store (record { types = g.types; id = id; vertex = unwrap_or o new_vertex; edges = records_of g r.vertices r.edges id })) (sym found)
       (let fits = vertex_fits shape store g r id vertex found in
@@ -168,14 +168,14 @@ module _ (shape : Shape) (store : Contents) (g : Graph) (r : Represents shape st
 
   -- ---- the edge's own object
 
-  object_apart : (key : EdgeKey) (place : Place) → find edge_cmp key r.edges ≡ Some place → (id : ℕ) (vertex : Vertex) → vertex_at g id ≡ Some vertex → place ≢ object_of r.vertices id
+  pub object_apart : (key : EdgeKey) (place : Place) → find edge_cmp key r.edges ≡ Some place → (id : ℕ) (vertex : Vertex) → vertex_at g id ≡ Some vertex → place ≢ object_of r.vertices id
   object_apart key place there id vertex found =
       let all = apart_parts (places_in r.vertices) (places_in r.edges) r.represented.apart in
       let from = All-find nat_cmp nat_cmp-IsAntisymmetric (λ entry. AllByRecursion (λ y. y ≢ entry.1) (places_in r.edges)) id (object_of r.vertices id) r.vertices
       (All-places (λ x. AllByRecursion (λ y. y ≢ x) (places_in r.edges)) r.vertices all) (object_is shape store g r ranges id vertex found) in
       All-find edge_cmp edge_cmp_same (λ entry. entry.1 ≢ object_of r.vertices id) key place r.edges (All-places (λ y. y ≢ object_of r.vertices id) r.edges from) there
 
-  is_block : (id : ℕ) (place : Place) → IsUnreserved shape (home_of shape id) place → IsBlock shape place
+  pub is_block : (id : ℕ) (place : Place) → IsUnreserved shape (home_of shape id) place → IsBlock shape place
   is_block id place free =
       let rank = mod_below id shape.ranks (omega (arith, ranges.ranks)) in
       (omega (arith, free.home, rank), free.block)
@@ -193,7 +193,7 @@ module _ (shape : Shape) (store : Contents) (g : Graph) (r : Represents shape st
     orderly : IsOrderlyEdge edge
     orderly = record { labels = stands.fits.labels.0; props = stands.fits.props.0; some = each_some g.types edge.props stands.fits.props.1 }
 
-    own_there : is_heavy edge ≡ true → find edge_cmp (record { source = id; ordinal = ordinal }) r.edges ≡ Some held.own_at
+    pub own_there : is_heavy edge ≡ true → find edge_cmp (record { source = id; ordinal = ordinal }) r.edges ≡ Some held.own_at
     own_there heavy =
         let passing = found_passing (λ entry. is_heavy entry.1) (record { source = id; ordinal = ordinal }) edge g.edges found heavy in
         let there = find-by_keys edge_cmp (heavy_edges g.edges) r.edges (record { source = id; ordinal = ordinal }) edge (sym r.represented.edge_keys) passing in
@@ -215,7 +215,7 @@ module _ (shape : Shape) (store : Contents) (g : Graph) (r : Represents shape st
           props_rise = props_rise g edge.props stands.fits.props;
         }
 
-    holds_own : is_heavy edge ≡ true → HoldsOwn shape (object_of r.vertices id) ordinal store (vertex_of_graph g r.vertices r.edges id) held
+    pub holds_own : is_heavy edge ≡ true → HoldsOwn shape (object_of r.vertices id) ordinal store (vertex_of_graph g r.vertices r.edges id) held
     holds_own heavy =
         let is = stands.held heavy in
         record {

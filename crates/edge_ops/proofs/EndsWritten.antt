@@ -23,13 +23,17 @@ use Rattle.edge_ops.specs.Ending.{AreHolders, AreOf, WritesEnds, are_too_large, 
 pub same_itself : (place : Place) → same_place place place ≡ true
 same_itself place = and_from _ _ (eq-eqb place.rank place.rank refl) (eq-eqb place.block place.block refl)
 
+pub place_is : (one other : Place) → same_place one other ≡ true → one ≡ other
+place_is one other same =
+    let parts = and_parts _ _ same in
+    λ i. record { rank = eqb-true one.rank other.rank parts.0 i; block = eqb-true one.block other.block parts.1 i }
+
 pub same_apart : (one other : Place) → one ≢ other → same_place one other ≡ false
 same_apart one other apart = cases (same_place one other) refl
   where
     cases : (same : Bool) → same_place one other ≡ same → same ≡ false
     cases true same =
-        let parts = and_parts _ _ same in
-        absurd (apart (λ i. record { rank = eqb-true one.rank other.rank parts.0 i; block = eqb-true one.block other.block parts.1 i }))
+        absurd (apart (place_is one other same))
     cases false same = refl
 
 pub untied : (one other : Place) → one ≢ other → eq_by_cmp place_cmp one other ≡ false
@@ -42,7 +46,7 @@ untied one other apart = cases (eq_by_cmp place_cmp one other) refl
 -- ---- the words
 
 module _ (contents writes : Contents) (source target : Place) (ordered : IsByRisingObject writes) where
-  here : (object : Place) (words : List ℕ) (before : Contents) → IsByRisingObject before → content_of (overlay contents (with_words before object words)) object ≡ words
+  pub here : (object : Place) (words : List ℕ) (before : Contents) → IsByRisingObject before → content_of (overlay contents (with_words before object words)) object ≡ words
   here object words before rise =
       content_put contents before object words object rise ∙ ap (λ b. cond b words (content_of (overlay contents before) object)) (place_ties_itself object)
 

@@ -10,3 +10,10 @@ pub mod NewEdge
 pub mod EdgeCut
 pub mod LinesOfGraph
 pub mod EdgesOfGraph
+pub mod AroundGraph
+pub mod Replacing
+pub mod EdgeForms
+pub mod EdgeKept
+pub mod EdgesParted
+pub mod OwnsCleared
+pub mod EdgesCutOff

@@ -22,12 +22,12 @@ use Rattle.held_objects.specs.Changes.{Holds, IfMade, any}
 use Rattle.held_objects.proofs.Knows.{knows_after, still}
 use Rattle.vertex_ops.specs.Vertices.{HeldVertex, IsOrderly, KnowsVertex, holder_for}
 use Rattle.edge_ops.specs.declared.ends.Ends.{Ends}
-use Rattle.edge_ops.specs.HeldEdges.{HoldsOut, KnowsOut}
+use Rattle.edge_ops.specs.HeldEdges.{HoldsOut, KnowsOut, leads_to}
 use Rattle.edge_ops.specs.Ends.{HeldEnds, HoldsEnds, MakesEdge, as_ends, into_of, labels_of, out_of, reply_to_make, with_edge, with_in, with_out}
 use Rattle.edge_ops.specs.Ending.{AreHolders, AreOf, FindsEnds, SettlesEnds, WritesEnds, are_too_large, ends_made, holder_with_in, holder_with_out, new_edge, target_of}
 use Rattle.edge_ops.proofs.EdgeMade.{made_is_out, out_held}
 use Rattle.edge_ops.proofs.Finding.{found_is}
-use Rattle.edge_ops.proofs.EndsWritten.{ends_hold, in_order_now, made_alike, orderly_both, too_large_either, are_of_made}
+use Rattle.edge_ops.proofs.EndsWritten.{ends_hold, in_order_now, made_alike, orderly_both, same_itself, too_large_either, are_of_made}
 
 module _ {N : Type 0} {source target : Place} {old mid : StoreState N} {ends : Ends} (found : FindsEnds source target old mid ends) (label : Option ℕ) (undirected : Bool) where
   abbrev out : EdgeRecord
@@ -121,7 +121,7 @@ module _ {N : Type 0} {source target : Place} {old mid : StoreState N} {ends : E
         (held, hold store held (agreed store agrees) (record { at_source = one.has; at_target = other.has }))
 
     -- the edge that was made is there
-    out_then : (store : Contents) → MayBeAt old.shape old.reads store → Agrees new.reads store → Holds (HoldsOut old.shape source ends.source.next) any old.shape (overlay store new.writes)
+    out_then : (store : Contents) → MayBeAt old.shape old.reads store → Agrees new.reads store → Holds (HoldsOut old.shape source ends.source.next) (leads_to target) old.shape (overlay store new.writes)
     out_then store may agrees =
         let one = from.always store may in
         let other = to.always store may in
@@ -132,7 +132,7 @@ module _ {N : Type 0} {source target : Place} {old mid : StoreState N} {ends : E
           part = out_held source target undirected held (labels_of label);
           has = subst (λ n. HoldsOut old.shape source n (overlay store new.writes) (out_held source target undirected held (labels_of label))) next
               (made_is_out source target undirected held label old.shape (overlay store new.writes) block (hold store held (agreed store agrees) has));
-          passed = refl;
+          passed = same_itself target;
         }
 
     pub makes_it : MakesEdge source target (labels_of label) undirected old new reply
@@ -149,7 +149,7 @@ module _ {N : Type 0} {source target : Place} {old mid : StoreState N} {ends : E
       out_known = λ id ordinal is.
           let same : EdgeIs ends.source.id ends.source.next ≡ EdgeIs id ordinal = sym replied ∙ is in
           let next : ends.source.next ≡ ordinal = cc same in
-          subst (λ n. KnowsOut source n any new) next (knows_after (stays-then found.source_found.looks.stays wrote.stays) (in_order_now ordered are holders small wrote) out_then);
+          subst (λ n. KnowsOut source n (leads_to target) new) next (knows_after (stays-then found.source_found.looks.stays wrote.stays) (in_order_now ordered are holders small wrote) out_then);
     }
 
   pub makes : {new : StoreState N} {reply : Reply} (change : Change Ends) → change ≡ new_edge source target (labels_of label) undirected ends → IfMade AreHolders change

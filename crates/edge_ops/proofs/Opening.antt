@@ -42,7 +42,7 @@ edge_some : (holder : EdgeHolder) → edge_object_words holder ≢ []
 edge_some holder none = cc none
 
 -- few enough words are taken
-taken : (n : ℕ) → n ≤ most_words → is_too_large n ≡ false
+pub taken : (n : ℕ) → n ≤ most_words → is_too_large n ≡ false
 taken n few = grind (arith, nat_tests)
 
 neither : (a b : Bool) → a ≡ false → b ≡ false → (a || b) ≡ false

@@ -12,7 +12,7 @@ use Rattle.holder_codec.specs.Knowing.{Wherever}
 use Rattle.held_objects.specs.Changes.{any}
 use Rattle.vertex_ops.specs.Vertices.{HeldVertex, KnowsVertex}
 use Rattle.edge_ops.specs.Ends.{HeldEnds, HoldsEnds, ends_after}
-use Rattle.edge_ops.specs.HeldEdges.{Footprint, HeldEdge, HeldOut, HoldsOut, KnowsOut, has_edge, in_key, out_key}
+use Rattle.edge_ops.specs.HeldEdges.{Footprint, HeldEdge, HeldOut, HoldsOut, KnowsOut, has_edge, in_key, leads_to, out_key}
 use Rattle.edge_ops.specs.Records.{Key, without_record}
 
 abbrev pub holder_without : Key → VertexHolder → VertexHolder
@@ -45,3 +45,5 @@ module _ {N : Type 0} where
     -- there is no such edge any more
     pub gone : KnowsOut source ordinal lacks_edge new
     pub source_known : KnowsVertex source any new
+    -- and the vertex at the target, where it is known in which object it is
+    pub target_known : (target : Place) → KnowsOut source ordinal (leads_to target) old → KnowsVertex target any new

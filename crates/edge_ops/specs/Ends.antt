@@ -14,7 +14,7 @@ use Rattle.holder_codec.specs.Knowing.{Wherever}
 use Rattle.holder_codec.specs.Represents.{light_form}
 use Rattle.held_objects.specs.Changes.{any}
 use Rattle.vertex_ops.specs.Vertices.{HeldVertex, HoldsVertex, KnowsVertex, size}
-use Rattle.edge_ops.specs.HeldEdges.{KnowsOut}
+use Rattle.edge_ops.specs.HeldEdges.{KnowsOut, leads_to}
 use Rattle.edge_ops.specs.Records.{with_record}
 
 pub record HeldEnds : Type 0 where
@@ -82,5 +82,5 @@ module _ {N : Type 0} where
     pub unchanged : answered ≡ reply.TooLarge → Looks old new
     pub source_known : KnowsVertex source any new
     pub target_known : KnowsVertex target any new
-    -- the edge is there
-    pub out_known : (id ordinal : ℕ) → answered ≡ reply.EdgeIs id ordinal → KnowsOut source ordinal any new
+    -- the edge is there, and leads to the target
+    pub out_known : (id ordinal : ℕ) → answered ≡ reply.EdgeIs id ordinal → KnowsOut source ordinal (leads_to target) new

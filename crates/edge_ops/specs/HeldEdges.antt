@@ -4,7 +4,7 @@ use Rattle.std.specs.List.{AllByRecursion}
 use Rattle.std.specs.Option.{option_map, option_map_or}
 use Rattle.std.specs.Ordering.{nat_cmp}
 use Rattle.rma_layout.specs.Shape.{Shape}
-use Rattle.rma_layout.specs.Placement.{Place, IsBlock}
+use Rattle.rma_layout.specs.Placement.{Place, IsBlock, same_place}
 use Rattle.object_words.specs.Contents.{Contents, overlay, words_at}
 use Rattle.graph_model.specs.Maps.{IsMap, IsSet}
 use Rattle.graph_model.specs.Graph.{PropType, Edge, is_heavy}
@@ -110,6 +110,10 @@ has_edge held = is_some held.found
 -- there is an edge, and it is from this vertex to that one
 abbrev pub is_edge_to : ℕ → ℕ → HeldOut → Bool
 is_edge_to id target held = held.source.id == id && option_map_or (λ edge. edge.edge.target == target) held.found false
+
+-- there is an edge, and the vertex at its target is in this object
+abbrev pub leads_to : Place → HeldOut → Bool
+leads_to target held = option_map_or (λ edge. same_place edge.target_at target) held.found false
 
 -- ---- which objects are at an edge
 

@@ -7,3 +7,7 @@ pub mod Ending
 pub mod Loading
 pub mod Opening
 pub mod Cutting
+pub mod Keeping
+pub mod Forming
+pub mod CuttingAll
+pub mod Parting

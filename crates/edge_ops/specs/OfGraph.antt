@@ -1,9 +1,10 @@
--- What a graph's store holds of a vertex, and of an edge from it.
+-- What a graph's store holds of a vertex, of an edge from it, and of all its edges.
 use Rattle.std.specs.Prelude.{ℕ}
 use Rattle.std.specs.Option.{option_map, unwrap_or}
 use Rattle.graph_model.specs.Graph.{Edge, Graph, edge_at, new_vertex, vertex_at}
 use Rattle.holder_codec.specs.Represents.{EdgeObjects, VertexObjects, edge_object_of, object_of, records_of}
 use Rattle.vertex_ops.specs.Vertices.{HeldVertex}
+use Rattle.edge_ops.specs.CuttingAll.{HeldAround}
 use Rattle.edge_ops.specs.HeldEdges.{HeldEdge, HeldOut}
 
 abbrev pub vertex_of_graph : Graph → VertexObjects → EdgeObjects → ℕ → HeldVertex
@@ -21,3 +22,7 @@ edge_of_graph g vertices objects id ordinal edge = record {
 abbrev pub out_of_graph : Graph → VertexObjects → EdgeObjects → ℕ → ℕ → HeldOut
 out_of_graph g vertices objects id ordinal =
     record { source = vertex_of_graph g vertices objects id; found = option_map (edge_of_graph g vertices objects id ordinal) (edge_at g id ordinal) }
+
+abbrev pub around_of_graph : Graph → VertexObjects → EdgeObjects → ℕ → HeldAround
+around_of_graph g vertices objects id =
+    record { vertex = vertex_of_graph g vertices objects id; others = vertex_of_graph g vertices objects; object_of = object_of vertices }

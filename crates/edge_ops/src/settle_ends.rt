@@ -1,11 +1,11 @@
-ghost use Rattle.std.specs.Prelude.{◌≡◌, ◌≤◌, IfOk, IsOkAnd, OnOk, length};
+ghost use Rattle.std.specs.Prelude.{◌≡◌, ◌≤◌, IfOk, IsOkAnd, OnOk, false, length};
 ghost use Rattle.rma_layout.specs.Placement.{IsBlock};
 ghost use Rattle.graph_model.specs.Sizes.{is_too_large};
 ghost use Rattle.object_store.specs.declared.phase.Phase.TheVariants.{Writing};
 ghost use Rattle.object_store.specs.Calls.{MayWrite};
 ghost use Rattle.object_store.specs.Works.{Nowhere, Works};
 ghost use Rattle.held_objects.specs.Changes.{IfMade};
-ghost use Rattle.edge_ops.specs.Ending.{AreFew, AreHolders, IsSpelling, SettlesEnds, WritesWords};
+ghost use Rattle.edge_ops.specs.Ending.{AreFew, AreHolders, IsSpelling, SettlesEnds, WritesEnds, WritesWords, are_too_large};
 ghost use Rattle.edge_ops.specs.Ends.{Either};
 
 use crate::ends::{Ends, Spelling};
@@ -54,6 +54,35 @@ pub(crate) fn settle_ends<L: KeepsGraph, S: Store<L>>(
     };
     write_ends(store, source, target, words)?;
     Ok(done)
+}
+
+/// Gives the ends what was made of them, where none of them has too many words. Where they were not made for want of memory,
+/// the transaction is given up.
+pub(crate) fn put_ends<L: KeepsGraph, S: Store<L>>(
+    alloc: Global,
+    store: &mut S,
+    source: DPtr,
+    target: DPtr,
+    made: Result<Ends, NoMemory>,
+) -> Result<(), S::Refused>
+    requires begun { (S.state store.old).phase ≡ Writing }
+    requires source { IsBlock (S.state store.old).shape source }
+    requires target { IsBlock (S.state store.old).shape target }
+    requires may_source { MayWrite (S.state store.old) source }
+    requires may_target { MayWrite (S.state store.old) target }
+    requires is { IfOk made AreHolders }
+    requires small { IfOk made (λ ends. are_too_large ends ≡ false) }
+    ensures works { Works L.fits S.state S.explains S.says (Either source target) Nowhere store.old store.new result }
+    ensures wrote { OnOk result (IsOkAnd made (λ ends. WritesEnds source target ends (S.state store.old) (S.state store.new))) }
+{
+    let Ok(ends) = made else {
+        return Err(give_up(store));
+    };
+    let Ok(spelled) = spell(alloc, &ends) else {
+        return Err(give_up(store));
+    };
+    let Some(words) = spelled else { unreachable!() };
+    write_ends(store, source, target, words)
 }
 
 /// The words of the ends, unless one of them has too many.

@@ -1,3 +1,4 @@
-mod PlainRuns
-pub mod Refused
-mod SerialIsLegal
+pub mod Unread
+pub mod Ended
+pub mod OneCommand
+pub mod Answered

@@ -1,5 +1,3 @@
+pub mod Commands
+pub mod Reading
 pub mod Answer
-pub mod BareScripts
-pub mod Output
-pub mod Serial
-pub mod Words

@@ -1,13 +1,14 @@
 //! The top call: from the words of a command line to the bytes of its output.
 #![tactic(auto)]
 
-mod bare;
-mod runner;
+mod reading;
+mod run;
 mod status;
 mod top;
 mod words;
 
-pub use status::{FileKind, Status, UsageKind};
+pub use command_words::UsageKind;
+pub use status::{FileKind, Status};
 pub use top::gdi_main;
 
 #[cfg(test)]

@@ -1,4 +1,4 @@
-use rma_layout::BadGeometry;
+use command_words::UsageKind;
 use std::fmt;
 
 /// Which of a command's files is meant.
@@ -8,19 +8,6 @@ pub enum FileKind {
     Edges,
     Script,
     Output,
-}
-
-/// What is wrong with the words of a command line.
-#[derive(Clone, Copy, Debug, PartialEq, Eq)]
-pub enum UsageKind {
-    /// There is no word, or the first is no command.
-    Command,
-    /// The other words aren't in the command's form.
-    Words,
-    /// A number is misspelled or out of its range.
-    Number,
-    /// The numbers make no geometry.
-    Geometry(BadGeometry),
 }
 
 /// How a command ended.
@@ -35,7 +22,7 @@ pub enum Status {
     TooLong(FileKind),
     /// The first wrong record of a load file, from 1; row 0 is the header or the whole file.
     BadLoad { file: FileKind, row: u64, kind: u32 },
-    /// The first wrong line of the script, from 1. Line 0 and kind 0 say that the script isn't one that is run so far.
+    /// The first wrong line of the script, from 1, and the kind of its fault.
     BadScript { line: u64, kind: u32 },
     /// The first wrong line of an output, from 1.
     BadOutput { line: u64 },

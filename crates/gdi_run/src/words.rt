@@ -1,24 +1,35 @@
-ghost use Rattle.std.specs.Prelude.{◌≡◌, Ok, Err, MatchResult};
-ghost use Rattle.gdi_run.specs.Words.{is_file_name, name_in};
+ghost use Rattle.std.specs.Prelude.{◌≡◌, List, map, IfOk, MatchOption};
+ghost use Rattle.command_words.specs.Items.{Text};
+ghost use Rattle.command_words.specs.declared.command.CommandName.{CommandName as Command};
+ghost use Rattle.gdi_run.specs.Commands.{Names};
 
-use crate::UsageKind;
-use gdi_kinds::{CommandWord, CommandWordList};
+use command_words::CommandName;
+use gdi_kinds::{CommandWord, NoMemory};
+use std::alloc::Global;
 
-/// The name of the script, where the words are `run` and a name.
-pub(crate) fn script_name(words: &CommandWordList) -> Result<&str, UsageKind>
-    ensures { MatchResult result (λ name. name_in words.now ≡ Ok name.now) (λ kind. name_in words.now ≡ Err kind) }
+/// The command that the first word names, if it is done so far, and the words behind it.
+pub(crate) fn command_in(words: &[CommandWord]) -> Option<(CommandName, &[CommandWord])>
+    ensures { MatchOption result ((name : Command) (others : List Text) → ¬ Names words.now name others) (λ named. Names words.now named.0 named.1.now) }
 {
-    match words.as_slice() {
-        [command, others @ ..] if command.text() == "run" => match others {
-            [name] if is_file_name(name) => Ok(name.text()),
-            _ => Err(UsageKind::Words),
+    match words {
+        [word, others @ ..] => match CommandName::of(word.text()) {
+            Some(CommandName::Run) => Some((CommandName::Run, others)),
+            _ => None,
         },
-        _ => Err(UsageKind::Command),
+        _ => None,
     }
 }
 
-fn is_file_name(word: &CommandWord) -> bool
-    ensures { result ≡ is_file_name word.now }
+/// The words as texts.
+pub(crate) fn texts_of<'a>(
+    alloc: Global,
+    words: &'a [CommandWord],
+) -> Result<Vec<&'a str>, NoMemory>
+    ensures { IfOk result (λ texts. map (λ text. text.now) texts.items ≡ words.now) }
 {
-    !word.text().is_empty() && !word.text().starts_with('-')
+    let mut texts = Vec::new(alloc);
+    for word in words {
+        texts.push(word.text())?;
+    }
+    Ok(texts)
 }

@@ -5,7 +5,7 @@ use Rattle.std.specs.declared.io.ErrorKind.{ErrorKind}
 use Rattle.std.specs.declared.io.ErrorKind.TheVariants as kind
 use Rattle.gdi_run.specs.declared.status.Status.{Status}
 use Rattle.gdi_run.specs.declared.status.Status.TheVariants as status
-use Rattle.gdi_run.specs.declared.status.UsageKind.TheVariants as usage
+use Rattle.command_words.specs.declared.usage.UsageKind.TheVariants as usage
 use Rattle.gdi_shell.specs.declared.fault.Fault.{Fault}
 use Rattle.gdi_shell.specs.declared.fault.Fault.TheVariants.{Usage, Read, TooLong, BadLoad, BadScript, LoadFull, Write, Illegal, NoMemory, BadOutput}
 

@@ -1,4 +1,4 @@
-ghost use Rattle.std.specs.Prelude.{◌≡◌, [], ◌∷◌, ◌++◌, OnOk, MatchOption};
+ghost use Rattle.std.specs.Prelude.{◌≡◌, [], ◌∷◌, ◌++◌, map, OnOk, MatchOption};
 ghost use Rattle.map_graph.specs.Noted.{undo_of};
 
 use crate::undo::Undo;
@@ -32,6 +32,13 @@ impl Journal {
         Journal {
             steps: Vec::new(alloc),
         }
+    }
+
+    /// The steps, as they were noted.
+    pub fn steps(&self) -> &[Undo]
+        ensures { map undo_of result.now ≡ self.now }
+    {
+        self.steps.as_slice()
     }
 
     /// Notes a step behind the others.

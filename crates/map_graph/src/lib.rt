@@ -14,3 +14,4 @@ pub use journal::Journal;
 pub use map_graph::MapGraph;
 pub use object_name::ObjectName;
 pub use refused::ModelRefused;
+pub use undo::Undo;

@@ -249,3 +249,10 @@ measured_is {N} object known history before after is =
     ap (λ (v : View N). known_of v.known object) is
     ∙ ap (λ b. cond b (Some known) (known_of (without_known before.known object) object))
     (same_place-refl object)
+
+-- the block of a word is among so many as its object asks for
+pub within_chain : (shape : Shape) (object : Place) (content : List ℕ) (k : ℕ) → IsInRange shape
+    → k < length content → k / (shape.words - 1) < chain_length shape object content
+within_chain shape object content k in_range h =
+    let r = reaches (length content) (shape.words - 1) k (omega (arith, in_range.words)) h in
+    subst (λ n. k / (shape.words - 1) < n) (sym (chain_has shape object content k h)) r

@@ -75,7 +75,7 @@ impl HeldObjects {
 }
 
 /// The word of this pointer.
-fn key(at: DPtr) -> u64
+pub(crate) fn key(at: DPtr) -> u64
     ensures { place_of result ≡ at }
 {
     at.raw()

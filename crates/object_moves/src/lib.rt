@@ -4,7 +4,12 @@
 mod held;
 mod leaving;
 mod loading;
+mod noted;
+mod rewriting;
+mod storing;
 
 pub use held::{HeldObjects, Mode};
 pub use leaving::leave_all;
-pub use loading::{Blocks, Loaded, load};
+pub use loading::{Blocks, Loaded, load, load_chain};
+pub use noted::NotedChains;
+pub use rewriting::rewrite;

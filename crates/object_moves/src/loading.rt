@@ -6,7 +6,7 @@ ghost use Rattle.window_rule.specs.Known.{chain_in, known_of};
 ghost use Rattle.window_rule.specs.Lengths.{MayRead};
 ghost use Rattle.window_rule.specs.Trails.{Follows};
 ghost use Rattle.window_rule.specs.Truths.{IsTrueView};
-ghost use Rattle.object_moves.specs.Loads.{Loads, blocks_asked, content_in};
+ghost use Rattle.object_moves.specs.Loads.{IsChain, IsMeasured, IsWhole, Loads, blocks_asked, content_in};
 
 use fabric::{Rank, Window};
 use gdi_kinds::{ListOf, NoMemory};
@@ -38,7 +38,49 @@ pub fn load<L: Law>(
     requires may { MayRead rank.old.view at }
     ensures window { rank.new.window ≡ rank.old.window }
     ensures spares { rank.new.spares ≡ rank.old.spares }
-    ensures loads { Loads at rank.old.view rank.new.view result }
+    ensures loads { Loads IsWhole at rank.old.view rank.new.view result }
+    ensures truths { IsTrueView L.fits window.now.shape rank.new.view }
+    ensures follows { Follows rank.old.view rank.new.view }
+{
+    window.geometry().keeps_ranges();
+    let (blocks, length) = measure(window, rank, alloc, at)?;
+    let words = payload(window, rank, alloc, at, &blocks, length)?;
+    Ok(Loaded { blocks, words })
+}
+
+/// Loads the length and the links of an object as `load` does, and none of its words.
+pub fn load_chain<L: Law>(
+    window: &Window<L>,
+    rank: &mut Rank<L>,
+    alloc: Global,
+    at: DPtr,
+) -> Result<Blocks, NoMemory>
+    requires window { rank.old.window ≡ window.now }
+    requires object { IsBlock window.now.shape at }
+    requires may { MayRead rank.old.view at }
+    ensures window { rank.new.window ≡ rank.old.window }
+    ensures spares { rank.new.spares ≡ rank.old.spares }
+    ensures loads { Loads IsChain at rank.old.view rank.new.view result }
+    ensures truths { IsTrueView L.fits window.now.shape rank.new.view }
+    ensures follows { Follows rank.old.view rank.new.view }
+{
+    let (blocks, _length) = measure(window, rank, alloc, at)?;
+    Ok(blocks)
+}
+
+/// The blocks of the chain of an object, and how many words it has.
+fn measure<L: Law>(
+    window: &Window<L>,
+    rank: &mut Rank<L>,
+    alloc: Global,
+    at: DPtr,
+) -> Result<(Blocks, u64), NoMemory>
+    requires window { rank.old.window ≡ window.now }
+    requires object { IsBlock window.now.shape at }
+    requires may { MayRead rank.old.view at }
+    ensures window { rank.new.window ≡ rank.old.window }
+    ensures spares { rank.new.spares ≡ rank.old.spares }
+    ensures loads { Loads IsMeasured at rank.old.view rank.new.view result }
     ensures truths { IsTrueView L.fits window.now.shape rank.new.view }
     ensures follows { Follows rank.old.view rank.new.view }
 {
@@ -47,12 +89,11 @@ pub fn load<L: Law>(
     geometry.keeps_ranges();
     let count = chain_blocks(&geometry, at, length);
     let blocks = walk(window, rank, alloc, at, count)?;
-    let words = payload(window, rank, alloc, at, &blocks, length)?;
-    Ok(Loaded { blocks, words })
+    Ok((blocks, length))
 }
 
 /// How many blocks an object with so many words has: none where it isn't reserved and has no words.
-fn chain_blocks(geometry: &Geometry, at: DPtr, length: u64) -> u64
+pub(crate) fn chain_blocks(geometry: &Geometry, at: DPtr, length: u64) -> u64
     requires { IsInRange geometry.now }
     ensures { result ≡ blocks_asked geometry.now at length }
 {

@@ -1,5 +1,5 @@
 -- What is left where a transaction ends.
-use Rattle.std.proofs.Common.{◌≡◌, ◌≢◌, ◌+◌, ◌<◌, ◌≤◌, List, [], ◌∷◌, ◌++◌, length, ◌⊎◌, inl, inr, sym, ap, ◌∙◌, subst, arith, length-append, None}
+use Rattle.std.proofs.Common.{◌≡◌, ◌≢◌, ◌+◌, ◌<◌, ◌≤◌, List, [], ◌∷◌, ◌++◌, length, ◌⊎◌, inl, inr, refl, sym, ap, ◌∙◌, subst, arith, length-append, None}
 use Rattle.rma_layout.specs.Shape.{Shape}
 use Rattle.rma_layout.specs.Placement.{Place, same_place}
 use Rattle.object_words.specs.Blocks.{one_if}
@@ -11,6 +11,8 @@ use Rattle.window_rule.proofs.LockLemmas.{same_place-refl}
 use Rattle.fabric.specs.Window.{RankModel, WindowModel}
 use Rattle.block_pool.specs.Gives.{Frees, IsForUse, Keeps, MayGive, OnlyBlocks}
 use Rattle.object_txn.specs.declared.txn.Txn.{Txn}
+use Rattle.object_store.specs.declared.phase.Phase.TheVariants.{Idle}
+use Rattle.object_txn.specs.Endings.{GivesBack, GivesEach}
 use Rattle.object_txn.specs.Tied.{HasTaken, IsClosed, IsFree, IsNone, IsTied}
 
 -- the last of some blocks, and the others
@@ -73,9 +75,28 @@ module _ {N : Type 0} where
       let there = last_there items more block is in
       record { own = taken.own block there; no_spare = taken.no_spare block there; left = left; clean = clean }
 
+pub rank_by_parts : {N : Type 0} (one other : RankModel N) → one.window ≡ other.window → one.view ≡ other.view → one.spares ≡ other.spares → one ≡ other
+rank_by_parts one other w v s i = record { window = w i; view = v i; spares = s i }
+
 -- a rank that is tied to no transaction is free
 pub free_by : {N : Type 0} (window : WindowModel) (rank : RankModel N) (txn : Txn) → IsTied window rank txn → IsNone txn → IsFree rank.view
 free_by window rank txn tied none = record {
   locks = λ object. tied.locks.same object ∙ ap (λ (h : Locks). hold_of h object) none.held;
   closed = subst (IsClosed rank.view) none.phase tied.closed;
+}
+
+-- so is a rank whose transaction is idle
+pub free_while_idle : {N : Type 0} (window : WindowModel) (rank : RankModel N) (txn : Txn) → IsTied window rank txn → txn.phase ≡ Idle → IsFree rank.view
+free_while_idle window rank txn tied idle = record {
+  locks = λ object. tied.locks.same object ∙ ap (λ (h : Locks). hold_of h object) (tied.phase.held idle);
+  closed = subst (IsClosed rank.view) idle tied.closed;
+}
+
+-- a transaction that isn't writing took no block
+pub gives_none : {N : Type 0} (rank : RankModel N) (items : List Place) → items ≡ [] → GivesBack items rank rank
+gives_none {N} rank items none = record {
+  left = rank;
+  private = refl;
+  spares = refl;
+  given = subst (λ (l : List Place). GivesEach l rank rank) (sym none) refl;
 }

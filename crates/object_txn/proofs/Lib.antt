@@ -6,3 +6,7 @@ pub mod LockingFacts
 pub mod EndingFacts
 pub mod ReadingFacts
 pub mod MakingFacts
+pub mod NotedFacts
+pub mod PlanFacts
+pub mod RoomFacts
+pub mod StampFacts

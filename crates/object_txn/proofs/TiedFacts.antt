@@ -17,6 +17,7 @@ use Rattle.window_rule.proofs.LockLemmas.{place_cases, same_place-false}
 use Rattle.window_rule.proofs.Readings.{reading-stays}
 use Rattle.fabric.specs.Window.{WindowModel, RankModel}
 use Rattle.block_pool.specs.Moves.{OnlyTaken}
+use Rattle.object_moves.specs.Noted.{Chains}
 use Rattle.object_store.specs.declared.phase.Phase.{Phase}
 use Rattle.object_store.specs.declared.phase.Phase.TheVariants.{Idle, Writing}
 use Rattle.object_txn.specs.declared.txn.Txn.{Txn}
@@ -52,9 +53,9 @@ closed_as_before before after phase same h = record {
 module _ {N : Type 0} (window : WindowModel) (before after : RankModel N) where
   -- an object was locked, or was tried to
   pub tied_locked : (txn : Txn) (held : Locks) (object : Place) → after.window ≡ before.window → after.spares ≡ before.spares
-      → HasLocks window.shape after.view.locks held → Locked object before.view after.view txn.held held
+      → HasLocks window.shape after.view.locks held → Locked object before.view after.view txn.held held → txn.phase ≢ Idle
       → IsTied window before txn → IsTied window after (record txn { held = held })
-  tied_locked txn held object same spares locks locked tied = record {
+  tied_locked txn held object same spares locks locked begun tied = record {
     together = same ∙ tied.together;
     locks = locks;
     reads = record {
@@ -86,7 +87,7 @@ module _ {N : Type 0} (window : WindowModel) (before after : RankModel N) where
     };
     taken = taken_as_before (rest_of before.view) (rest_of after.view) (ap rest_of locked.view) window.shape before.spares after.spares txn.taken.items spares tied.taken;
     closed = closed_as_before before.view after.view txn.phase (ap rest_of locked.view) tied.closed;
-    phase = record { reads = tied.phase.reads; writes = tied.phase.writes; taken = tied.phase.taken };
+    phase = record { reads = tied.phase.reads; writes = tied.phase.writes; taken = tied.phase.taken; held = λ idle. absurd (begun idle) };
   }
 
   -- an object was loaded that wasn't read
@@ -175,7 +176,7 @@ tied_none window rank txn together free closed none = record {
     once = λ block. omega (arith, nowhere block);
   };
   closed = subst (IsClosed rank.view) (sym none.phase) closed;
-  phase = record { reads = λ _. none.reads; writes = λ _. none.writes; taken = λ _. none.taken };
+  phase = record { reads = λ _. none.reads; writes = λ _. none.writes; taken = λ _. none.taken; held = λ _. none.held };
 }
   where
     not_held : (object : Place) → hold_of txn.held object ≡ None
@@ -189,6 +190,19 @@ tied_none window rank txn together free closed none = record {
 
     nowhere : (block : Place) → times block txn.taken.items ≡ 0
     nowhere block = ap (times block) none.taken
+
+-- chains are noted beside
+pub tied_beside : {N : Type 0} (window : WindowModel) (rank : RankModel N) (txn : Txn) (chains : Chains) → IsTied window rank txn
+    → IsTied window rank (record txn { chains = chains })
+tied_beside window rank txn chains tied = record {
+  together = tied.together;
+  locks = tied.locks;
+  reads = tied.reads;
+  writes = tied.writes;
+  taken = tied.taken;
+  closed = tied.closed;
+  phase = record { reads = tied.phase.reads; writes = tied.phase.writes; taken = tied.phase.taken; held = tied.phase.held };
+}
 
 -- what was read of a locked object is noted
 pub tied_noted : {N : Type 0} (window : WindowModel) (rank : RankModel N) (txn : Txn) (reads : Contents) (object : Place) (words : List ℕ)
@@ -217,7 +231,7 @@ tied_noted {N} window rank txn reads object words is known lasts begun unwritten
       };
       taken = tied.taken;
       closed = tied.closed;
-      phase = record { reads = λ idle. absurd (begun idle); writes = tied.phase.writes; taken = tied.phase.taken };
+      phase = record { reads = λ idle. absurd (begun idle); writes = tied.phase.writes; taken = tied.phase.taken; held = tied.phase.held };
     })
   where
     may_still : (other : Place) → other ≢ object → content_of txn.reads other ≢ [] → content_of (with_words txn.reads object words) other ≢ []
@@ -246,7 +260,7 @@ tied_written {N} window rank txn writes object words is marked may begun tied =
       };
       taken = tied.taken;
       closed = tied.closed;
-      phase = record { reads = tied.phase.reads; writes = λ idle. absurd (begun idle); taken = tied.phase.taken };
+      phase = record { reads = tied.phase.reads; writes = λ idle. absurd (begun idle); taken = tied.phase.taken; held = tied.phase.held };
     })
 
 -- more blocks were taken
@@ -274,5 +288,5 @@ tied_taken {N} window before after txn new same only taken more writing is tied 
         closed = ap (λ (v : View N). v.stamps.opened) only ∙ tied.closed.closed;
         gate = ap (λ (v : View N). v.gate) only ∙ tied.closed.gate;
       };
-      phase = record { reads = tied.phase.reads; writes = tied.phase.writes; taken = λ quiet. absurd (quiet writing) };
+      phase = record { reads = tied.phase.reads; writes = tied.phase.writes; taken = λ quiet. absurd (quiet writing); held = tied.phase.held };
     })

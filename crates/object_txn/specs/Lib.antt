@@ -3,3 +3,4 @@ pub mod Tied
 pub mod Causes
 pub mod Moves
 pub mod Endings
+pub mod Plans

@@ -9,6 +9,7 @@ use Rattle.window_rule.specs.Locks.{hold_of}
 use Rattle.window_rule.specs.Partition.{places_of, times}
 use Rattle.window_rule.specs.Spares.{SpareEnds, IsNoSpare}
 use Rattle.fabric.specs.Window.{WindowModel, RankModel}
+use Rattle.object_moves.specs.Noted.{Chains, blocks_of}
 use Rattle.object_store.specs.declared.phase.Phase.{Phase}
 use Rattle.object_store.specs.declared.phase.Phase.TheVariants.{Idle, Writing}
 use Rattle.object_txn.specs.declared.txn.Txn.{Txn}
@@ -35,6 +36,21 @@ pub record HasRead (known : List (Place × Known)) (held : Locks) (reads : Conte
 abbrev pub MayBeWritten : Shape → Contents → List Place → Place → Type 0
 MayBeWritten shape reads taken object = ¬ IsReserved shape object.block → times object taken ≡ 0
     → content_of reads object ≢ []
+
+abbrev pub chain_known : Option Known → Option (List Place)
+chain_known None = None
+chain_known (Some known) = Some known.chain
+
+-- of each object that was read or written the chain is noted, as it is known. It is of an object that is locked
+pub record HasChains (known : List (Place × Known)) (held : Locks) (chains : Chains)
+    (reads writes : Contents) : Type 0 where
+  pub known_is : (object : Place) (blocks : List Place) → blocks_of chains object ≡ Some blocks
+      → chain_known (known_of known object) ≡ Some blocks
+  pub locked : (object : Place) → hold_of held object ≡ None → blocks_of chains object ≡ None
+  pub of_reads : (object : Place) (words : List ℕ) → words_at reads object ≡ Some words
+      → blocks_of chains object ≢ None
+  pub of_writes : (object : Place) (words : List ℕ) → words_at writes object ≡ Some words
+      → blocks_of chains object ≢ None
 
 -- what was written is marked, and may be written
 pub record HasWritten (shape : Shape) (held : Locks) (reads writes : Contents)
@@ -64,6 +80,7 @@ pub record IsInPhase (txn : Txn) : Type 0 where
   pub reads : txn.phase ≡ Idle → txn.reads ≡ []
   pub writes : txn.phase ≡ Idle → txn.writes ≡ []
   pub taken : txn.phase ≢ Writing → txn.taken.items ≡ []
+  pub held : txn.phase ≡ Idle → txn.held ≡ []
 
 pub record IsTied {N : Type 0} (window : WindowModel) (rank : RankModel N) (txn : Txn) : Type 0 where
   pub together : rank.window ≡ window
@@ -74,12 +91,17 @@ pub record IsTied {N : Type 0} (window : WindowModel) (rank : RankModel N) (txn 
   pub closed : IsClosed rank.view txn.phase
   pub phase : IsInPhase txn
 
+-- so it is with the chains of a transaction
+abbrev pub KnowsChains : {N : Type 0} → View N → Txn → Type 0
+KnowsChains view txn = HasChains view.known txn.held txn.chains txn.reads txn.writes
+
 -- there is no transaction
 pub record IsNone (txn : Txn) : Type 0 where
   pub phase : txn.phase ≡ Idle
   pub reads : txn.reads ≡ []
   pub writes : txn.writes ≡ []
   pub held : txn.held ≡ []
+  pub chains : txn.chains ≡ []
   pub taken : txn.taken.items ≡ []
 
 -- a rank without a transaction: it has no lock, no place in the gate, nothing detached and no object

@@ -4,6 +4,7 @@ ghost use Rattle.window_rule.specs.View.{Outside};
 ghost use Rattle.window_rule.specs.Gate.{entered};
 ghost use Rattle.window_rule.specs.Locks.{hold_of};
 ghost use Rattle.window_rule.specs.Trails.{Follows};
+ghost use Rattle.window_rule.specs.Truths.{IsTrueView};
 ghost use Rattle.block_pool.specs.Gives.{OnlyBlocks};
 ghost use Rattle.object_store.specs.declared.phase.Phase.TheVariants.{Writing};
 ghost use Rattle.object_txn.specs.Endings.{GivesBack, GivesEach};
@@ -28,11 +29,13 @@ pub(crate) fn end_all<L: Law>(window: &Window<L>, rank: &mut Rank<L>, txn: &mut 
     ensures given { GivesBack txn.old.taken.items rank.old rank.new }
     ensures seen { rank.new.view.seen ≡ rank.old.view.seen }
     ensures spares { txn.old.phase ≢ Writing → rank.new.spares ≡ rank.old.spares }
+    ensures truths { IsTrueView L.fits window.now.shape rank.new.view }
     ensures follows { Follows rank.old.view rank.new.view }
 {
     leave_all(window, rank, &mut txn.held);
     leave_gate(window, rank, txn.phase);
     give_all(window, rank, &mut txn.taken);
+    rank.truths(window);
     txn.end();
 }
 

@@ -4,8 +4,12 @@
 mod ending;
 mod locking;
 mod making;
+mod placing;
+mod plan;
 mod reading;
 mod refused;
+mod stamping;
+mod storing;
 mod txn;
 mod window_store;
 mod writing;

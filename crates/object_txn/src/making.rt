@@ -1,6 +1,6 @@
 ghost use Rattle.std.specs.Vec.{vec_capacity, vec_len};
-ghost use Rattle.std.specs.Prelude.{◌≡◌, ◌<◌, ◌⊎◌, [], ◌∷◌, ◌++◌, None, Some, IfErr, IfOk, OnErr, OnOk};
-ghost use Rattle.rma_layout.specs.Placement.{IsBlock};
+ghost use Rattle.std.specs.Prelude.{◌≡◌, ◌≢◌, ◌<◌, ◌⊎◌, [], ◌∷◌, ◌++◌, None, Some, IfErr, IfOk, OnErr, OnOk};
+ghost use Rattle.rma_layout.specs.Placement.{IsBlock, Place};
 ghost use Rattle.object_words.specs.Contents.{content_of};
 ghost use Rattle.window_rule.specs.ContentsHold.{Lasts};
 ghost use Rattle.window_rule.specs.Known.{known_of};
@@ -15,7 +15,7 @@ ghost use Rattle.object_store.specs.State.{names_nothing, names_rank};
 ghost use Rattle.object_txn.specs.State.{named_by};
 ghost use Rattle.object_txn.specs.Causes.{Explains};
 ghost use Rattle.object_txn.specs.Moves.{Makes, NamesHome, Takes};
-ghost use Rattle.object_txn.specs.Tied.{HasTaken, IsTied, words_in};
+ghost use Rattle.object_txn.specs.Tied.{HasTaken, IsTied, KnowsChains, words_in};
 
 use crate::locking::mark;
 use crate::refused::TxnRefused;
@@ -23,6 +23,7 @@ use crate::txn::Txn;
 use block_pool::{PoolRefused, take};
 use fabric::{Rank, Window};
 use gdi_kinds::NoMemory;
+use object_moves::Blocks;
 use object_words::{Law, Words};
 use rma_layout::DPtr;
 use std::alloc::Global;
@@ -38,7 +39,9 @@ pub(crate) fn make<L: Law>(
     requires home { home < window.now.shape.ranks }
     requires begun { txn.old.phase ≡ Writing }
     requires tied { IsTied window.now rank.old txn.old }
+    requires chains { KnowsChains rank.old.view txn.old }
     ensures tied { IsTied window.now rank.new txn.new }
+    ensures chains { OnOk result (KnowsChains rank.new.view txn.new) }
     ensures phase { txn.new.phase ≡ txn.old.phase }
     ensures makes { IfOk result (λ made. Makes window.now.shape home rank.new.view txn.old txn.new made) }
     ensures names { IfErr result (λ why. NamesHome home (named_by why)) }
@@ -50,6 +53,7 @@ pub(crate) fn make<L: Law>(
         return Err(why);
     }
     meet(window, rank, txn, at);
+    txn.chains.put(at, Blocks::new(alloc))?;
     txn.reads.put(at, Words::new(alloc))?;
     txn.writes.put(at, Words::new(alloc))?;
     Ok(at)
@@ -114,6 +118,7 @@ fn meet<L: Law>(window: &Window<L>, rank: &mut Rank<L>, txn: &Txn, at: DPtr)
     ensures truths { IsTrueView L.fits window.now.shape rank.new.view }
     ensures known { words_in (known_of rank.new.view.known at) ≡ Some [] }
     ensures unread { content_of txn.now.reads at ≡ [] }
+    ensures others { (other : Place) → other ≢ at → known_of rank.new.view.known other ≡ known_of rank.old.view.known other }
     ensures locks { rank.new.view.locks ≡ rank.old.view.locks }
     ensures private { rank.new.view.private ≡ rank.old.view.private }
     ensures follows { Follows rank.old.view rank.new.view }

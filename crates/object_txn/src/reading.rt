@@ -1,4 +1,4 @@
-ghost use Rattle.std.specs.Prelude.{◌≡◌, ◌≢◌, ◌⊎◌, None, IfErr, IfOk};
+ghost use Rattle.std.specs.Prelude.{◌≡◌, ◌≢◌, ◌⊎◌, None, IfErr, IfOk, OnOk};
 ghost use Rattle.rma_layout.specs.Placement.{IsBlock};
 ghost use Rattle.object_words.specs.Contents.{words_at};
 ghost use Rattle.window_rule.specs.Trails.{Follows};
@@ -7,7 +7,7 @@ ghost use Rattle.object_store.specs.State.{names_nothing, names_object};
 ghost use Rattle.object_txn.specs.State.{named_by};
 ghost use Rattle.object_txn.specs.Causes.{Explains};
 ghost use Rattle.object_txn.specs.Moves.{Reads};
-ghost use Rattle.object_txn.specs.Tied.{IsTied};
+ghost use Rattle.object_txn.specs.Tied.{IsTied, KnowsChains};
 
 use crate::locking::hold;
 use crate::refused::TxnRefused;
@@ -30,7 +30,9 @@ pub(crate) fn read_at<L: Law>(
     requires object { IsBlock window.now.shape at }
     requires begun { txn.old.phase ≢ Idle }
     requires tied { IsTied window.now rank.old txn.old }
+    requires chains { KnowsChains rank.old.view txn.old }
     ensures tied { IsTied window.now rank.new txn.new }
+    ensures chains { OnOk result (KnowsChains rank.new.view txn.new) }
     ensures phase { txn.new.phase ≡ txn.old.phase }
     ensures writes { txn.new.writes ≡ txn.old.writes }
     ensures taken { txn.new.taken ≡ txn.old.taken }
@@ -61,9 +63,11 @@ fn read_committed<L: Law>(
     requires object { IsBlock window.now.shape at }
     requires begun { txn.old.phase ≢ Idle }
     requires tied { IsTied window.now rank.old txn.old }
+    requires chains { KnowsChains rank.old.view txn.old }
     requires unwritten { words_at txn.old.writes at ≡ None }
     requires unread { words_at txn.old.reads at ≡ None }
     ensures tied { IsTied window.now rank.new txn.new }
+    ensures chains { OnOk result (KnowsChains rank.new.view txn.new) }
     ensures phase { txn.new.phase ≡ txn.old.phase }
     ensures writes { txn.new.writes ≡ txn.old.writes }
     ensures taken { txn.new.taken ≡ txn.old.taken }
@@ -76,6 +80,8 @@ fn read_committed<L: Law>(
 {
     hold(window, rank, &mut txn.held, at)?;
     let loaded = load(window, rank, alloc, at)?;
-    txn.reads.put(at, loaded.words.copy(alloc)?)?;
-    Ok(loaded.words)
+    let words = loaded.words;
+    txn.chains.put(at, loaded.blocks)?;
+    txn.reads.put(at, words.copy(alloc)?)?;
+    Ok(words)
 }

@@ -1,18 +1,20 @@
 ghost use Rattle.std.specs.Prelude.{◌≡◌, []};
 ghost use Rattle.object_txn.specs.Tied.{IsNone};
 
-use object_moves::HeldObjects;
+use object_moves::{HeldObjects, NotedChains};
 use object_store::{Objects, Phase};
 use rma_layout::DPtr;
 use std::alloc::Global;
 
-/// A transaction over a window: what it has read and written, what it has locked, and the blocks that it took.
+/// A transaction over a window: what it has read and written, what it has locked, the chains of the objects that it has read
+/// or written, and the blocks that it took.
 #[derive(Drop)]
 pub struct Txn {
     pub phase: Phase,
     pub reads: Objects,
     pub writes: Objects,
     pub held: HeldObjects,
+    pub chains: NotedChains,
     pub taken: Vec<DPtr>,
 }
 
@@ -26,6 +28,7 @@ impl Txn {
             reads: Objects::new(alloc),
             writes: Objects::new(alloc),
             held: HeldObjects::new(alloc),
+            chains: NotedChains::new(alloc),
             taken: Vec::new(alloc),
         }
     }
@@ -39,5 +42,6 @@ impl Txn {
         self.phase = Phase::Idle;
         self.reads.clear();
         self.writes.clear();
+        self.chains.clear();
     }
 }

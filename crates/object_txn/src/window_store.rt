@@ -9,7 +9,7 @@ ghost use Rattle.window_rule.specs.Trails.{Follows};
 ghost use Rattle.object_txn.specs.Causes.{Explains};
 ghost use Rattle.object_txn.specs.Endings.{GivesBack};
 ghost use Rattle.object_txn.specs.State.{said_by, window_state};
-ghost use Rattle.object_txn.specs.Tied.{IsFree, IsNone, IsTied};
+ghost use Rattle.object_txn.specs.Tied.{IsFree, IsNone, IsTied, KnowsChains};
 
 use crate::ending::end_all;
 use crate::making::make;
@@ -28,19 +28,20 @@ use std::alloc::Global;
 pub struct WindowStore<'a, L: Law> {
     alloc: Global,
     window: &'a Window<L>,
-    rank: &'a mut Rank<L>,
+    rank: Rank<L>,
     txn: Txn,
-    ghost tied: { IsTied window.now rank.now txn },
+    ghost tied: { IsTied window.now rank txn },
+    ghost chains: { KnowsChains rank.view txn },
 }
 
 impl<'a, L: Law> WindowStore<'a, L> {
-    /// The store over a window, for a rank of it that has no lock, no place in the gate and nothing detached or open.
-    pub fn over(alloc: Global, window: &'a Window<L>, rank: &'a mut Rank<L>) -> WindowStore<'a, L>
-        requires window { rank.old.window ≡ window.now }
-        requires free { IsFree rank.old.view }
-        ensures same_reference { result.rank.ghost_name ≡ rank.entry.ghost_name }
+    /// The store over a window, for a rank of it that has no lock, no place in the gate and nothing detached or open. It
+    /// takes no memory.
+    pub fn over(alloc: Global, window: &'a Window<L>, rank: Rank<L>) -> WindowStore<'a, L>
+        requires window { rank.window ≡ window.now }
+        requires free { IsFree rank.view }
         ensures window { result.window.now ≡ window.now }
-        ensures rank { result.rank.now ≡ rank.old }
+        ensures rank { result.rank ≡ rank }
         ensures none { IsNone result.txn }
     {
         WindowStore {
@@ -51,18 +52,35 @@ impl<'a, L: Law> WindowStore<'a, L> {
         }
     }
 
+    /// Gives the rank back, which has no lock, no place in the gate and nothing detached or open. A transaction that is
+    /// begun is aborted before. It takes no memory.
+    pub fn into_rank(self) -> Rank<L>
+        ensures window { result.window ≡ self.entry.window.now }
+        ensures free { IsFree result.view }
+        ensures idle { self.entry.txn.phase ≡ Idle → result ≡ self.entry.rank }
+        ensures given { GivesBack self.entry.txn.taken.items self.entry.rank result }
+        ensures follows { Follows self.entry.rank.view result.view }
+    {
+        let mut rank = self.rank;
+        let mut txn = self.txn;
+        if txn.phase != Phase::Idle {
+            end_all(self.window, &mut rank, &mut txn);
+        }
+        rank
+    }
+
     /// The geometry of the objects.
     pub fn geometry(&self) -> Geometry
-        ensures { result ≡ (window_state self.now.window.now self.now.rank.now self.now.txn).shape }
+        ensures { result ≡ (window_state self.now.window.now self.now.rank self.now.txn).shape }
     {
         self.window.geometry()
     }
 
     /// Does nothing to the store, and tells what holds at every moment.
     pub fn stays_sound(&mut self)
-        ensures same { window_state self.new.window.now self.new.rank.now self.new.txn ≡ window_state self.old.window.now self.old.rank.now self.old.txn }
-        ensures sound { IsSound L.fits (window_state self.new.window.now self.new.rank.now self.new.txn) }
-        ensures follows { Follows self.old.rank.now.view self.new.rank.now.view }
+        ensures same { window_state self.new.window.now self.new.rank self.new.txn ≡ window_state self.old.window.now self.old.rank self.old.txn }
+        ensures sound { IsSound L.fits (window_state self.new.window.now self.new.rank self.new.txn) }
+        ensures follows { Follows self.old.rank.view self.new.rank.view }
     {
         self.rank.truths(self.window);
     }
@@ -70,11 +88,11 @@ impl<'a, L: Law> WindowStore<'a, L> {
     /// Begins a transaction, as writing or not. It takes no memory. One that writes enters the gate.
     pub fn begin(&mut self, writing: bool) -> Result<(), TxnRefused>
         requires { self.old.txn.phase ≡ Idle }
-        ensures keeps { Continues L.fits (window_state self.old.window.now self.old.rank.now self.old.txn) (window_state self.new.window.now self.new.rank.now self.new.txn) }
-        ensures done { IfOk result (λ _. Begins writing (window_state self.old.window.now self.old.rank.now self.old.txn) (window_state self.new.window.now self.new.rank.now self.new.txn)) }
-        ensures refused { IfErr result (λ why. RefusesBegin writing (window_state self.old.window.now self.old.rank.now self.old.txn) (window_state self.new.window.now self.new.rank.now self.new.txn) (said_by why)) }
-        ensures explained { IfErr result (λ why. Explains self.old.window.now.shape self.old.rank.now.view self.new.rank.now.view why) }
-        ensures follows { Follows self.old.rank.now.view self.new.rank.now.view }
+        ensures keeps { Continues L.fits (window_state self.old.window.now self.old.rank self.old.txn) (window_state self.new.window.now self.new.rank self.new.txn) }
+        ensures done { IfOk result (λ _. Begins writing (window_state self.old.window.now self.old.rank self.old.txn) (window_state self.new.window.now self.new.rank self.new.txn)) }
+        ensures refused { IfErr result (λ why. RefusesBegin writing (window_state self.old.window.now self.old.rank self.old.txn) (window_state self.new.window.now self.new.rank self.new.txn) (said_by why)) }
+        ensures explained { IfErr result (λ why. Explains self.old.window.now.shape self.old.rank.view self.new.rank.view why) }
+        ensures follows { Follows self.old.rank.view self.new.rank.view }
     {
         if writing && let Err(word) = self.rank.writer_try(self.window) {
             self.rank.truths(self.window);
@@ -92,22 +110,22 @@ impl<'a, L: Law> WindowStore<'a, L> {
     /// The words of an object: the transaction's own last write, else what is committed, under a lock.
     pub fn read(&mut self, at: DPtr) -> Result<Words, TxnRefused>
         requires begun { self.old.txn.phase ≢ Idle }
-        requires object { IsBlock (window_state self.old.window.now self.old.rank.now self.old.txn).shape at }
-        ensures keeps { Continues L.fits (window_state self.old.window.now self.old.rank.now self.old.txn) (window_state self.new.window.now self.new.rank.now self.new.txn) }
-        ensures done { IfOk result (λ words. ReadsObject at (window_state self.old.window.now self.old.rank.now self.old.txn) (window_state self.new.window.now self.new.rank.now self.new.txn) words) }
-        ensures refused { IfErr result (λ why. RefusesAccess at (window_state self.old.window.now self.old.rank.now self.old.txn) (window_state self.new.window.now self.new.rank.now self.new.txn) (said_by why)) }
-        ensures explained { IfErr result (λ why. Explains self.old.window.now.shape self.old.rank.now.view self.new.rank.now.view why) }
-        ensures given { OnErr result (GivesBack self.old.txn.taken.items self.old.rank.now self.new.rank.now) }
-        ensures free { OnErr result (IsFree self.new.rank.now.view) }
-        ensures follows { Follows self.old.rank.now.view self.new.rank.now.view }
+        requires object { IsBlock (window_state self.old.window.now self.old.rank self.old.txn).shape at }
+        ensures keeps { Continues L.fits (window_state self.old.window.now self.old.rank self.old.txn) (window_state self.new.window.now self.new.rank self.new.txn) }
+        ensures done { IfOk result (λ words. ReadsObject at (window_state self.old.window.now self.old.rank self.old.txn) (window_state self.new.window.now self.new.rank self.new.txn) words) }
+        ensures refused { IfErr result (λ why. RefusesAccess at (window_state self.old.window.now self.old.rank self.old.txn) (window_state self.new.window.now self.new.rank self.new.txn) (said_by why)) }
+        ensures explained { IfErr result (λ why. Explains self.old.window.now.shape self.old.rank.view self.new.rank.view why) }
+        ensures given { OnErr result (GivesBack self.old.txn.taken.items self.old.rank self.new.rank) }
+        ensures free { OnErr result (IsFree self.new.rank.view) }
+        ensures follows { Follows self.old.rank.view self.new.rank.view }
     {
-        match read_at(self.window, self.rank, &mut self.txn, self.alloc, at) {
+        match read_at(self.window, &mut self.rank, &mut self.txn, self.alloc, at) {
             Ok(words) => {
                 self.rank.truths(self.window);
                 Ok(words)
             }
             Err(why) => {
-                self.abort();
+                end_all(self.window, &mut self.rank, &mut self.txn);
                 Err(why)
             }
         }
@@ -117,24 +135,31 @@ impl<'a, L: Law> WindowStore<'a, L> {
     /// its blocks up at the commit.
     pub fn write(&mut self, at: DPtr, words: Words) -> Result<(), TxnRefused>
         requires begun { self.old.txn.phase ≡ Writing }
-        requires object { IsBlock (window_state self.old.window.now self.old.rank.now self.old.txn).shape at }
+        requires object { IsBlock (window_state self.old.window.now self.old.rank self.old.txn).shape at }
         requires few { length words ≤ MOST_WORDS }
-        requires may { MayWrite (window_state self.old.window.now self.old.rank.now self.old.txn) at }
-        ensures keeps { Continues L.fits (window_state self.old.window.now self.old.rank.now self.old.txn) (window_state self.new.window.now self.new.rank.now self.new.txn) }
-        ensures done { IfOk result (λ _. WritesObject at words (window_state self.old.window.now self.old.rank.now self.old.txn) (window_state self.new.window.now self.new.rank.now self.new.txn)) }
-        ensures refused { IfErr result (λ why. RefusesAccess at (window_state self.old.window.now self.old.rank.now self.old.txn) (window_state self.new.window.now self.new.rank.now self.new.txn) (said_by why)) }
-        ensures explained { IfErr result (λ why. Explains self.old.window.now.shape self.old.rank.now.view self.new.rank.now.view why) }
-        ensures given { OnErr result (GivesBack self.old.txn.taken.items self.old.rank.now self.new.rank.now) }
-        ensures free { OnErr result (IsFree self.new.rank.now.view) }
-        ensures follows { Follows self.old.rank.now.view self.new.rank.now.view }
+        requires may { MayWrite (window_state self.old.window.now self.old.rank self.old.txn) at }
+        ensures keeps { Continues L.fits (window_state self.old.window.now self.old.rank self.old.txn) (window_state self.new.window.now self.new.rank self.new.txn) }
+        ensures done { IfOk result (λ _. WritesObject at words (window_state self.old.window.now self.old.rank self.old.txn) (window_state self.new.window.now self.new.rank self.new.txn)) }
+        ensures refused { IfErr result (λ why. RefusesAccess at (window_state self.old.window.now self.old.rank self.old.txn) (window_state self.new.window.now self.new.rank self.new.txn) (said_by why)) }
+        ensures explained { IfErr result (λ why. Explains self.old.window.now.shape self.old.rank.view self.new.rank.view why) }
+        ensures given { OnErr result (GivesBack self.old.txn.taken.items self.old.rank self.new.rank) }
+        ensures free { OnErr result (IsFree self.new.rank.view) }
+        ensures follows { Follows self.old.rank.view self.new.rank.view }
     {
-        match write_at(self.window, self.rank, &mut self.txn, at, words) {
+        match write_at(
+            self.window,
+            &mut self.rank,
+            &mut self.txn,
+            self.alloc,
+            at,
+            words,
+        ) {
             Ok(()) => {
                 self.rank.truths(self.window);
                 Ok(())
             }
             Err(why) => {
-                self.abort();
+                end_all(self.window, &mut self.rank, &mut self.txn);
                 Err(why)
             }
         }
@@ -143,21 +168,21 @@ impl<'a, L: Law> WindowStore<'a, L> {
     /// A new object of a rank: a block that nobody has, and which this rank takes and marks.
     pub fn fresh(&mut self, home: u16) -> Result<DPtr, TxnRefused>
         requires begun { self.old.txn.phase ≡ Writing }
-        requires rank { home < (window_state self.old.window.now self.old.rank.now self.old.txn).shape.ranks }
-        ensures keeps { Continues L.fits (window_state self.old.window.now self.old.rank.now self.old.txn) (window_state self.new.window.now self.new.rank.now self.new.txn) }
-        ensures done { IfOk result (λ made. MakesObject home (window_state self.old.window.now self.old.rank.now self.old.txn) (window_state self.new.window.now self.new.rank.now self.new.txn) made) }
-        ensures refused { IfErr result (λ why. RefusesFresh home (window_state self.old.window.now self.old.rank.now self.old.txn) (window_state self.new.window.now self.new.rank.now self.new.txn) (said_by why)) }
-        ensures explained { IfErr result (λ why. Explains self.old.window.now.shape self.old.rank.now.view self.new.rank.now.view why) }
-        ensures free { OnErr result (IsFree self.new.rank.now.view) }
-        ensures follows { Follows self.old.rank.now.view self.new.rank.now.view }
+        requires rank { home < (window_state self.old.window.now self.old.rank self.old.txn).shape.ranks }
+        ensures keeps { Continues L.fits (window_state self.old.window.now self.old.rank self.old.txn) (window_state self.new.window.now self.new.rank self.new.txn) }
+        ensures done { IfOk result (λ made. MakesObject home (window_state self.old.window.now self.old.rank self.old.txn) (window_state self.new.window.now self.new.rank self.new.txn) made) }
+        ensures refused { IfErr result (λ why. RefusesFresh home (window_state self.old.window.now self.old.rank self.old.txn) (window_state self.new.window.now self.new.rank self.new.txn) (said_by why)) }
+        ensures explained { IfErr result (λ why. Explains self.old.window.now.shape self.old.rank.view self.new.rank.view why) }
+        ensures free { OnErr result (IsFree self.new.rank.view) }
+        ensures follows { Follows self.old.rank.view self.new.rank.view }
     {
-        match make(self.window, self.rank, &mut self.txn, self.alloc, home) {
+        match make(self.window, &mut self.rank, &mut self.txn, self.alloc, home) {
             Ok(at) => {
                 self.rank.truths(self.window);
                 Ok(at)
             }
             Err(why) => {
-                self.abort();
+                end_all(self.window, &mut self.rank, &mut self.txn);
                 Err(why)
             }
         }
@@ -166,27 +191,25 @@ impl<'a, L: Law> WindowStore<'a, L> {
     /// Ends a transaction that doesn't write, and answers the place in the history at which all its reads hold.
     pub fn finish(&mut self) -> u64
         requires { self.old.txn.phase ≡ Reading }
-        ensures keeps { Continues L.fits (window_state self.old.window.now self.old.rank.now self.old.txn) (window_state self.new.window.now self.new.rank.now self.new.txn) }
-        ensures done { Finishes (window_state self.old.window.now self.old.rank.now self.old.txn) (window_state self.new.window.now self.new.rank.now self.new.txn) result }
-        ensures free { IsFree self.new.rank.now.view }
-        ensures follows { Follows self.old.rank.now.view self.new.rank.now.view }
+        ensures keeps { Continues L.fits (window_state self.old.window.now self.old.rank self.old.txn) (window_state self.new.window.now self.new.rank self.new.txn) }
+        ensures done { Finishes (window_state self.old.window.now self.old.rank self.old.txn) (window_state self.new.window.now self.new.rank self.new.txn) result }
+        ensures free { IsFree self.new.rank.view }
+        ensures follows { Follows self.old.rank.view self.new.rank.view }
     {
         let place = self.rank.place(self.window);
-        end_all(self.window, self.rank, &mut self.txn);
-        self.rank.truths(self.window);
+        end_all(self.window, &mut self.rank, &mut self.txn);
         place
     }
 
     /// Ends the transaction and leaves every content as it was.
     pub fn abort(&mut self)
         requires { self.old.txn.phase ≢ Idle }
-        ensures keeps { Continues L.fits (window_state self.old.window.now self.old.rank.now self.old.txn) (window_state self.new.window.now self.new.rank.now self.new.txn) }
-        ensures done { Aborts (window_state self.old.window.now self.old.rank.now self.old.txn) (window_state self.new.window.now self.new.rank.now self.new.txn) }
-        ensures given { GivesBack self.old.txn.taken.items self.old.rank.now self.new.rank.now }
-        ensures free { IsFree self.new.rank.now.view }
-        ensures follows { Follows self.old.rank.now.view self.new.rank.now.view }
+        ensures keeps { Continues L.fits (window_state self.old.window.now self.old.rank self.old.txn) (window_state self.new.window.now self.new.rank self.new.txn) }
+        ensures done { Aborts (window_state self.old.window.now self.old.rank self.old.txn) (window_state self.new.window.now self.new.rank self.new.txn) }
+        ensures given { GivesBack self.old.txn.taken.items self.old.rank self.new.rank }
+        ensures free { IsFree self.new.rank.view }
+        ensures follows { Follows self.old.rank.view self.new.rank.view }
     {
-        end_all(self.window, self.rank, &mut self.txn);
-        self.rank.truths(self.window);
+        end_all(self.window, &mut self.rank, &mut self.txn);
     }
 }

@@ -2,3 +2,4 @@ mod Seen
 mod Numbers
 mod Orders
 mod Failures
+mod Rising

@@ -1,6 +1,6 @@
 -- Lines that are all well numbered.
-use Rattle.std.proofs.Common.{◌≡◌, ◌≢◌, ℕ, ◌+◌, ◌<◌, ◌≤◌, Bool, true, false, not, ◌||◌, ◌==◌, List, [], ◌∷◌, ◌++◌, length, refl, sym, ap, subst, ◌∙◌, arith, inr}
-use Rattle.std.specs.List.{AllByRecursion, filter_map}
+use Rattle.std.proofs.Common.{◌≡◌, ◌≢◌, ℕ, ◌+◌, ◌<◌, ◌≤◌, false, ◌||◌, ◌==◌, List, [], ◌∷◌, ◌++◌, length, refl, sym, ap, subst, ◌∙◌, arith, inr}
+use Rattle.std.specs.List.{AllByRecursion}
 use Rattle.std.specs.Option.{option_to_list}
 use Rattle.std.proofs.lemmas.List.{append-nil}
 use Rattle.std.proofs.lemmas.List.Elements.{filter_map-append}
@@ -12,7 +12,7 @@ use Rattle.graph_model.specs.Placed.{entry_number}
 use Rattle.graph_model.specs.LegalRun.{IsDistinct, IsNumbered, numbers_of, reading_places}
 use Rattle.run_check.specs.declared.place.Place.{Place}
 use Rattle.run_check.specs.Places.{NoneFails, FirstFails}
-use Rattle.run_check.specs.Numbering.{Misnumbered, is_among, is_misnumbered}
+use Rattle.run_check.specs.Numbering.{Misnumbered, is_among}
 use Rattle.run_check.proofs.Seen.{among_one_more}
 
 -- the numbers of lines with a line more

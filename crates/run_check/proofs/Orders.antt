@@ -1,11 +1,11 @@
 -- Lines in the order of their sections.
-use Rattle.std.proofs.Common.{◌≡◌, ◌≢◌, ℕ, ◌+◌, ◌<◌, ◌≤◌, Bool, true, false, not, List, [], ◌∷◌, ◌++◌, length, nat_le, refl, sym, ap, subst, ◌∙◌, arith, inl, inr, ◌⊎◌}
+use Rattle.std.proofs.Common.{◌≡◌, ℕ, ◌<◌, ◌≤◌, Bool, true, false, List, [], ◌∷◌, ◌++◌, refl, sym, subst, arith, inl, inr, ◌⊎◌}
 use Rattle.std.specs.List.{AllByRecursion}
 use Rattle.gdi_kinds.specs.declared.outcome.Outcome.{Outcome}
 use Rattle.gdi_kinds.specs.declared.outcome.Outcome.TheVariants.{Wrote, Read, Aborted, Full}
 use Rattle.gdi_kinds.specs.declared.outcome.Line.{Line}
 use Rattle.graph_model.specs.LegalRun.{MayStandBefore, KeepsSessionOrder}
-use Rattle.run_check.specs.Places.{NoneFails, FirstFails}
+use Rattle.run_check.specs.Places.{NoneFails}
 use Rattle.run_check.specs.Ordering.{MayFollow, TooEarly, RisesBySection, HasCome, is_from, least_behind}
 
 -- what may stand behind an outcome is what is from its least on

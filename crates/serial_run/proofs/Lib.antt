@@ -1,2 +1,3 @@
-mod LoadGraphs
-mod SerialIsLegal
+pub mod LoadGraphs
+pub mod SerialIsLegal
+mod Running

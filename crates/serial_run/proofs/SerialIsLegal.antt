@@ -242,7 +242,7 @@ module _ (shape : Shape) (load : List Txn) (pairs : List (Placed × Line)) where
       }
 
 -- a load's entries come first
-entry_of_load : (load : List Txn) (pairs : List (Placed × Line)) (j : ℕ) → j < length (load_entries load) → entry_at load pairs j ≡ item_at (load_entries load) j
+pub entry_of_load : (load : List Txn) (pairs : List (Placed × Line)) (j : ℕ) → j < length (load_entries load) → entry_at load pairs j ≡ item_at (load_entries load) j
 entry_of_load load pairs j lt =
     let there = item_there (load_entries load) j lt in
     rw there.1 refl

@@ -52,6 +52,11 @@ abbrev pub serial_writes : Shape → Graph → ℕ → List Placed → ℕ
 serial_writes shape g k [] = k
 serial_writes shape g k (p ∷ ps) = serial_writes shape (next_graph shape g p.txn) (next_entries shape g k p.txn) ps
 
+-- the graph that they leave
+abbrev pub serial_graph : Shape → Graph → List Placed → Graph
+serial_graph shape g [] = g
+serial_graph shape g (p ∷ ps) = serial_graph shape (next_graph shape g p.txn) ps
+
 abbrev pub serial_run : Shape → Graph → ℕ → List Placed → Printed
 serial_run shape g k ps = record { lines = serial_lines shape g k ps; writes = serial_writes shape g k ps }
 

@@ -2,5 +2,9 @@
 #![tactic(auto)]
 
 mod law;
+mod runner;
+mod script_run;
 
 pub use law::serial_runs_are_legal;
+pub use runner::run_script;
+pub use script_run::ScriptRun;

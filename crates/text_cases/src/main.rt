@@ -5,6 +5,7 @@
 //! of an output's file, which is read as an output and printed.
 #![tactic(auto)]
 
+mod loads;
 mod outputs;
 mod scripts;
 mod table;
@@ -31,7 +32,9 @@ fn main(rt: HostRuntime) -> io::Result<()> {
     check(&rt, "script_faults", Table::ScriptFaults)?;
     check(&rt, "script_limits", Table::ScriptLimits)?;
     check(&rt, "outputs", Table::Outputs)?;
-    check(&rt, "output_faults", Table::OutputFaults)
+    check(&rt, "output_faults", Table::OutputFaults)?;
+    check(&rt, "vertex_files", Table::Vertices)?;
+    check(&rt, "edge_files", Table::Edges)
 }
 
 // Reads a file as a script and prints it.

@@ -1,6 +1,8 @@
+use crate::loads::is_load_refused;
 use crate::outputs::{is_output_refused, keeps_output};
 use crate::scripts::{is_refused, keeps_script};
 use crate::unescaped::{push_unescaped, unescaped};
+use bulk_load::LoadFile;
 use gdi_kinds::NoMemory;
 use std::alloc::Global;
 use text_words::{number_of, opening_of};
@@ -20,6 +22,11 @@ pub(crate) enum Table {
     Outputs,
     /// The first wrong line and the text. A zero: the text is an output.
     OutputFaults,
+    /// The first wrong record of a file of vertices, its kind, and three texts as for `ScriptLimits`. Two zeros: the file
+    /// is read.
+    Vertices,
+    /// The same of a file of edges, read behind two vertices.
+    Edges,
 }
 
 /// Whether a line of a table holds.
@@ -34,13 +41,9 @@ pub(crate) fn holds(alloc: Global, table: Table, line: &[u8]) -> Result<bool, No
             Ok(is_refused(alloc, text.as_slice(), number, kind))
         }
         Table::ScriptLimits => {
-            let Some((number, kind, rest)) = fault_in(line) else {
+            let Some((number, kind, text)) = repeated_fault_in(alloc, line)? else {
                 return Ok(false);
             };
-            let Some((times, parts)) = number_in(rest) else {
-                return Ok(false);
-            };
-            let text = repeated(alloc, times, parts)?;
             Ok(is_refused(alloc, text.as_slice(), number, kind))
         }
         Table::Outputs => keeps_output(alloc, unescaped(alloc, line)?.as_slice()),
@@ -51,7 +54,29 @@ pub(crate) fn holds(alloc: Global, table: Table, line: &[u8]) -> Result<bool, No
             let text = unescaped(alloc, text)?;
             Ok(is_output_refused(alloc, text.as_slice(), number))
         }
+        Table::Vertices => is_load_refused_as(alloc, LoadFile::Vertices, line),
+        Table::Edges => is_load_refused_as(alloc, LoadFile::Edges, line),
     }
+}
+
+fn is_load_refused_as(alloc: Global, file: LoadFile, line: &[u8]) -> Result<bool, NoMemory> {
+    let Some((row, kind, text)) = repeated_fault_in(alloc, line)? else {
+        return Ok(false);
+    };
+    is_load_refused(alloc, file, text.as_slice(), row, kind)
+}
+
+// The number of a line or a record, the kind of what is wrong there, and the text of three in which the second stands as
+// often as is said.
+fn repeated_fault_in(alloc: Global, line: &[u8]) -> Result<Option<(u64, u32, Vec<u8>)>, NoMemory> {
+    let Some((number, kind, rest)) = fault_in(line) else {
+        return Ok(None);
+    };
+    let Some((times, parts)) = number_in(rest) else {
+        return Ok(None);
+    };
+    let text = repeated(alloc, times, parts)?;
+    Ok(Some((number, kind, text)))
 }
 
 // The number of a line and the kind of what is wrong there, and what stands behind them.

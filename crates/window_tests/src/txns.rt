@@ -9,8 +9,8 @@ use std::test::Fail;
 #[test]
 fn a_transaction_reads_and_finishes(rt: HostRuntime) -> Result<(), Fail> {
     let geometry = Geometry::new(1, 8, 8, 2, 2)?;
-    let (window, mut rank) = Window::<Anything>::new(rt.alloc(), geometry)?;
-    let mut store = WindowStore::over(rt.alloc(), &window, &mut rank);
+    let (window, rank) = Window::<Anything>::new(rt.alloc(), geometry)?;
+    let mut store = WindowStore::over(rt.alloc(), &window, rank);
     assert_eq!(rt; store.geometry().blocks(), 8);
     store.stays_sound();
     let Ok(()) = store.begin(false) else {
@@ -27,8 +27,8 @@ fn a_transaction_reads_and_finishes(rt: HostRuntime) -> Result<(), Fail> {
 #[test]
 fn a_transaction_writes_and_aborts(rt: HostRuntime) -> Result<(), Fail> {
     let geometry = Geometry::new(1, 8, 8, 2, 2)?;
-    let (window, mut rank) = Window::<Anything>::new(rt.alloc(), geometry)?;
-    let mut store = WindowStore::over(rt.alloc(), &window, &mut rank);
+    let (window, rank) = Window::<Anything>::new(rt.alloc(), geometry)?;
+    let mut store = WindowStore::over(rt.alloc(), &window, rank);
     let Ok(()) = store.begin(true) else {
         panic!(rt; "begun")
     };
@@ -45,7 +45,7 @@ fn a_transaction_writes_and_aborts(rt: HostRuntime) -> Result<(), Fail> {
         panic!(rt; "read")
     };
     assert!(rt; own.len() == 1 && *own.at(0) == 7);
-    store.abort();
+    let mut store = WindowStore::over(rt.alloc(), &window, store.into_rank());
     let Ok(()) = store.begin(true) else {
         panic!(rt; "begun again")
     };
@@ -60,10 +60,10 @@ fn a_transaction_writes_and_aborts(rt: HostRuntime) -> Result<(), Fail> {
 #[test]
 fn a_read_is_refused_beside_a_mark(rt: HostRuntime) -> Result<(), Fail> {
     let (window, mut one) = Window::<Anything>::new(rt.alloc(), Geometry::new(2, 8, 8, 2, 2)?)?;
-    let mut other = one.split(&window, 1, 10, rt.alloc())?;
+    let other = one.split(&window, 1, 10, rt.alloc())?;
     let object = DPtr::new(0, 1);
-    let mut writer = WindowStore::over(rt.alloc(), &window, &mut other);
-    let mut reader = WindowStore::over(rt.alloc(), &window, &mut one);
+    let mut writer = WindowStore::over(rt.alloc(), &window, other);
+    let mut reader = WindowStore::over(rt.alloc(), &window, one);
     let Ok(()) = writer.begin(true) else {
         panic!(rt; "begun")
     };

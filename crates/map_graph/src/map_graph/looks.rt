@@ -65,8 +65,8 @@ impl MapGraph {
         }
     }
 
-    /// A vertex.
-    pub(super) fn vertex(&self, id: u64) -> Option<&HeldVertex>
+    /// A vertex, if it is there.
+    pub fn vertex(&self, id: u64) -> Option<&HeldVertex>
         ensures { option_copied result ≡ vertex_at self.now.graph id }
     {
         self.vertices.get(&id)
@@ -82,8 +82,8 @@ impl MapGraph {
         Ok(self.outgoing.count(id) + self.incoming.count(id))
     }
 
-    /// An edge.
-    pub(super) fn edge(&self, source: u64, ordinal: u64) -> Option<&HeldEdge>
+    /// An edge by its source and ordinal, if it is there.
+    pub fn edge(&self, source: u64, ordinal: u64) -> Option<&HeldEdge>
         ensures { option_copied result ≡ edge_at self.now.graph source ordinal }
     {
         self.edges.get(&EdgeKey::new(source, ordinal))

@@ -1,8 +1,8 @@
-ghost use Rattle.std.specs.Prelude.{◌≡◌, IfOk, OnOk};
+ghost use Rattle.std.specs.Prelude.{◌≡◌, ◌++◌, IfOk, OnOk};
 ghost use Rattle.graph_model.specs.Graph.{Graph};
 ghost use Rattle.graph_model.specs.Calls.{graph_after_call, reply_to};
 ghost use Rattle.graph_model.specs.Transactions.{graph_after_calls, replies_to_calls};
-ghost use Rattle.graph_undo.specs.Undo.{LeadBack};
+ghost use Rattle.graph_undo.specs.Undo.{LeadBack, noted_before};
 ghost use Rattle.graph_model.specs.WellFormed.{IsWellFormed};
 
 use super::MapGraph;
@@ -17,6 +17,7 @@ impl MapGraph {
         ensures shape { self.new.shape ≡ self.old.shape }
         ensures reply { IfOk result (λ reply. reply ≡ reply_to self.old.shape self.old.graph call.now) }
         ensures graph { OnOk result (self.new.graph ≡ graph_after_call self.old.shape self.old.graph call.now) }
+        ensures noted { OnOk result (journal.new ≡ journal.old ++ noted_before self.old.graph call.now) }
         ensures leads { OnOk result ((before : Graph)
             → LeadBack journal.old self.old.graph before → LeadBack journal.new self.new.graph before) }
         ensures well_formed { OnOk result (IsWellFormed self.new.graph) }

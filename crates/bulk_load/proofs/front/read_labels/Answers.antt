@@ -1,7 +1,6 @@
-use Rattle.std.proofs.Common.{◌≡◌, ◌<◌, ◌++◌, ◌∷◌, [], length, arith, ℕ, List, subst, sym, true, false, refl, ◌∙◌, ap}
+use Rattle.std.proofs.Common.{◌≡◌, ◌<◌, [], length, arith, true, false}
 use Rattle.std.specs.List.{list_any}
 use Rattle.std.specs.Str.{bytes_eq}
-use Rattle.bulk_load.specs.Fields.{pieces_of}
 use Rattle.bulk_load.proofs.ApartLemmas.{labels_start, labels_go_on, labels_end, no_name_no_labels, twice_no_labels}
 use Rattle.bulk_load.proofs.front.read_labels.Goals as goal
 

@@ -1,6 +1,5 @@
-use Rattle.std.proofs.Common.{◌≡◌, sym, subst, ◌∙◌}
+use Rattle.std.proofs.Common.{sym, subst, ◌∙◌}
 use Rattle.gdi_kinds.specs.Names.{IsName}
-use Rattle.bulk_load.specs.Headers.{column_text}
 use Rattle.bulk_load.proofs.HeaderLemmas.{name_ends, cut_at, column_joined, tail_text}
 use Rattle.bulk_load.proofs.header_reader.column_of.Goals as goal
 

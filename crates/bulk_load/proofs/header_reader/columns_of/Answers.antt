@@ -1,4 +1,4 @@
-use Rattle.std.proofs.Common.{◌≡◌, true, false, sym, ◌∙◌, List, ℕ, subst, [], arith}
+use Rattle.std.proofs.Common.{◌≡◌, true, false, sym, ◌∙◌, arith}
 use Rattle.std.specs.List.{list_any}
 use Rattle.std.specs.Str.{bytes_eq}
 use Rattle.text_words.specs.Forms.{texts}

@@ -1,4 +1,4 @@
-use Rattle.std.proofs.Common.{drop, [], ◌≡◌}
+use Rattle.std.proofs.Common.{drop, []}
 use Rattle.text_words.specs.Forms.{texts}
 use Rattle.bulk_load.proofs.HeaderLemmas.{three_texts}
 use Rattle.bulk_load.proofs.header_reader.leads_edges.Goals as goal

@@ -1,4 +1,4 @@
-use Rattle.std.proofs.Common.{◌≡◌, ◌∷◌, ◌∙◌, true, false}
+use Rattle.std.proofs.Common.{◌∷◌, ◌∙◌}
 use Rattle.csv.specs.Records.{fields_of}
 use Rattle.bulk_load.proofs.LoadLemmas.{load_ends, load_goes_on, load_stops}
 use Rattle.bulk_load.proofs.loader.load_records.Goals as goal

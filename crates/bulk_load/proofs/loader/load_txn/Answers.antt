@@ -1,4 +1,4 @@
-use Rattle.std.proofs.Common.{◌≡◌, ◌∙◌, [], true, false, refl, sym}
+use Rattle.std.proofs.Common.{◌∙◌, [], refl, sym}
 use Rattle.std.proofs.lemmas.Result.{err_from_is_err_and}
 use Rattle.csv.specs.Records.{fields_of}
 use Rattle.bulk_load.specs.Loads.{HasHeader, no_record, no_header, no_room}

@@ -1,4 +1,4 @@
-use Rattle.std.proofs.Common.{◌≡◌, true, List, sym, subst, refl, ◌∙◌}
+use Rattle.std.proofs.Common.{sym, refl, ◌∙◌}
 use Rattle.bulk_load.specs.Rows.{misplaced, too_large}
 use Rattle.bulk_load.proofs.RowLemmas.{own_part, not_false}
 use Rattle.bulk_load.proofs.row.load_record.Goals as goal

@@ -1,7 +1,7 @@
-use Rattle.std.proofs.Common.{◌≡◌, length, drop, refl, arith}
+use Rattle.std.proofs.Common.{length, drop, refl, arith}
 use Rattle.std.proofs.lemmas.Result.{err_from_is_err_and}
 use Rattle.text_words.specs.Forms.{texts}
-use Rattle.bulk_load.specs.Fields.{Says, lead_sorts}
+use Rattle.bulk_load.specs.Fields.{lead_sorts}
 use Rattle.bulk_load.proofs.RowLemmas.{say_fails, say_ends, say_count, texts_rest}
 use Rattle.bulk_load.proofs.row.say.Goals as goal
 

@@ -1,7 +1,7 @@
-use Rattle.std.proofs.Common.{◌≡◌, ◌<◌, ◌∷◌, length, arith, subst, ap, ◌∙◌, sym}
+use Rattle.std.proofs.Common.{◌<◌, length, arith, subst}
 use Rattle.std.proofs.lemmas.Result.{err_from_is_err_and}
 use Rattle.bulk_load.specs.Records.{Fields}
-use Rattle.bulk_load.specs.Fields.{parts_of, pieces_of}
+use Rattle.bulk_load.specs.Fields.{parts_of}
 use Rattle.bulk_load.proofs.SpellLemmas.{PutSoFar, one_part, many_parts, put_alone, put_starts, put_goes_on, put_ends, put_fails}
 use Rattle.bulk_load.proofs.values.put_field.Goals as goal
 

@@ -1,19 +1,21 @@
-use Rattle.std.proofs.Common.{◌≢◌, refl, sym, ap, ◌∙◌, subst, []}
+use Rattle.std.proofs.Common.{◌≢◌, refl, sym, ap, ◌∙◌, subst, [], List, Some}
+use Rattle.rma_layout.specs.Placement.{Place}
 use Rattle.object_words.specs.Contents.{Contents, with_words}
-use Rattle.window_rule.specs.View.{Locks}
+use Rattle.window_rule.specs.View.{Known, Locks, View}
 use Rattle.window_rule.specs.ContentsHold.{Lasts}
 use Rattle.window_rule.specs.Locks.{hold_of}
 use Rattle.object_store.specs.declared.phase.Phase.TheVariants.{Idle}
-use Rattle.object_txn.specs.Tied.{IsTied}
+use Rattle.object_txn.specs.Tied.{HasChains, IsTied, KnowsChains}
 use Rattle.object_txn.proofs.Explaining.{explains_earlier}
 use Rattle.object_txn.proofs.MakingFacts.{made_may, noted_more, unwritten_by}
-use Rattle.object_txn.proofs.TiedFacts.{tied_locked, tied_noted, tied_taken, tied_written}
+use Rattle.object_txn.proofs.NotedFacts.{chains_locked, chains_noted, chains_read, chains_written, empty_chain, noted_here}
+use Rattle.object_txn.proofs.TiedFacts.{tied_beside, tied_locked, tied_noted, tied_taken, tied_written}
 use Rattle.object_txn.proofs.making.make.Goals as goal
 
 pub returns-in-Err-clause-tied : goal.returns-in-Err-clause-tied
 returns-in-Err-clause-tied g c =
     tied_locked c.args.window.now c.take_one.new.rank c.mark.new.rank (record c.args.txn.now { taken = c.take_one.new.taken }) c.mark.new.held c.in_ok-at.at
-    c.mark.ensures.window c.mark.ensures.spares c.mark.ensures.locks c.mark.ensures.locked
+    c.mark.ensures.window c.mark.ensures.spares c.mark.ensures.locks c.mark.ensures.locked (λ idle. cc (sym c.requires.begun ∙ idle))
     (tied_taken c.args.window.now c.args.rank.now c.take_one.new.rank c.args.txn.now (record c.args.txn.now { taken = c.take_one.new.taken })
     c.take_one.ensures.window c.take_one.ensures.only c.take_one.ensures.taken
     (noted_more c.args.txn.now.taken.items c.take_one.new.taken.items c.in_ok-at.at c.in_ok-at.ensures.noted.noted) c.requires.begun refl c.requires.tied)
@@ -26,32 +28,62 @@ returns-in-Err-clause-refused g c =
 pub meet-requires-clause-tied : goal.meet-requires-clause-tied
 meet-requires-clause-tied g c =
     tied_locked c.args.window.now c.take_one.new.rank c.mark.new.rank (record c.args.txn.now { taken = c.take_one.new.taken }) c.mark.new.held c.in_ok-at.at
-    c.mark.ensures.window c.mark.ensures.spares c.mark.ensures.locks c.mark.ensures.locked
+    c.mark.ensures.window c.mark.ensures.spares c.mark.ensures.locks c.mark.ensures.locked (λ idle. cc (sym c.requires.begun ∙ idle))
     (tied_taken c.args.window.now c.args.rank.now c.take_one.new.rank c.args.txn.now (record c.args.txn.now { taken = c.take_one.new.taken })
     c.take_one.ensures.window c.take_one.ensures.only c.take_one.ensures.taken
     (noted_more c.args.txn.now.taken.items c.take_one.new.taken.items c.in_ok-at.at c.in_ok-at.ensures.noted.noted) c.requires.begun refl c.requires.tied)
 
+pub returns-in_err-put-clause-tied : goal.returns-in_err-put-clause-tied
+returns-in_err-put-clause-tied g c =
+    tied_beside c.args.window.now c.meet.new.rank (record c.args.txn.now { held = c.mark.new.held; taken = c.take_one.new.taken }) c.put.new.self c.meet.ensures.tied
+
 pub returns-in_err-put-2-clause-tied : goal.returns-in_err-put-2-clause-tied
 returns-in_err-put-2-clause-tied g c =
+    subst (λ (reads : Contents). IsTied c.args.window.now c.meet.new.rank
+    (record c.args.txn.now { held = c.mark.new.held; taken = c.take_one.new.taken; chains = c.put.new.self; reads = reads })) (sym c.in_err-put-2.ensures.err)
+    (tied_beside c.args.window.now c.meet.new.rank (record c.args.txn.now { held = c.mark.new.held; taken = c.take_one.new.taken }) c.put.new.self c.meet.ensures.tied)
+
+pub returns-in_err-put-3-clause-tied : goal.returns-in_err-put-3-clause-tied
+returns-in_err-put-3-clause-tied g c =
     let at = c.in_ok-at.at in
     let begun : c.args.txn.now.phase ≢ Idle = λ idle. cc (sym c.requires.begun ∙ idle) in
     subst (λ (writes : Contents). IsTied c.args.window.now c.meet.new.rank
-    (record c.args.txn.now { held = c.mark.new.held; taken = c.take_one.new.taken; reads = c.put.new.self; writes = writes })) (sym c.in_err-put-2.ensures.err)
-    (tied_noted c.args.window.now c.meet.new.rank (record c.args.txn.now { held = c.mark.new.held; taken = c.take_one.new.taken }) c.put.new.self at []
-    (c.in_ok-put.ensures.ok ∙ ap (with_words c.args.txn.now.reads at) c.new.ensures) c.meet.ensures.known
+    (record c.args.txn.now { held = c.mark.new.held; taken = c.take_one.new.taken; chains = c.put.new.self; reads = c.put-2.new.self; writes = writes })) (sym c.in_err-put-3.ensures.err)
+    (tied_noted c.args.window.now c.meet.new.rank (record c.args.txn.now { held = c.mark.new.held; taken = c.take_one.new.taken; chains = c.put.new.self }) c.put-2.new.self at []
+    (c.in_ok-put-2.ensures.ok ∙ ap (with_words c.args.txn.now.reads at) c.new-2.ensures) c.meet.ensures.known
     (subst Lasts (sym (ap (λ (l : Locks). hold_of l at) c.meet.ensures.locks ∙ (c.in_default.ensures.locks.same at ∙ c.in_default.ensures.marked))) tt)
     begun (unwritten_by c.args.window.now.shape c.args.txn.now at c.in_ok-at.ensures.noted.free c.in_ok-at.ensures.noted.unnoted c.requires.tied.writes c.meet.ensures.unread)
-    c.meet.ensures.tied)
+    (tied_beside c.args.window.now c.meet.new.rank (record c.args.txn.now { held = c.mark.new.held; taken = c.take_one.new.taken }) c.put.new.self c.meet.ensures.tied))
 
 pub returns-clause-tied : goal.returns-clause-tied
 returns-clause-tied g c =
     let at = c.in_ok-at.at in
     let begun : c.args.txn.now.phase ≢ Idle = λ idle. cc (sym c.requires.begun ∙ idle) in
-    tied_written c.args.window.now c.meet.new.rank (record c.args.txn.now { held = c.mark.new.held; taken = c.take_one.new.taken; reads = c.put.new.self }) c.put-2.new.self at []
-    (c.in_ok-put-2.ensures.ok ∙ ap (with_words c.args.txn.now.writes at) c.new-2.ensures) c.in_default.ensures.marked
-    (made_may c.args.window.now.shape c.put.new.self c.args.txn.now.taken.items c.take_one.new.taken.items at c.in_ok-at.ensures.noted.noted) begun
-    (tied_noted c.args.window.now c.meet.new.rank (record c.args.txn.now { held = c.mark.new.held; taken = c.take_one.new.taken }) c.put.new.self at []
-    (c.in_ok-put.ensures.ok ∙ ap (with_words c.args.txn.now.reads at) c.new.ensures) c.meet.ensures.known
+    tied_written c.args.window.now c.meet.new.rank (record c.args.txn.now { held = c.mark.new.held; taken = c.take_one.new.taken; chains = c.put.new.self; reads = c.put-2.new.self }) c.put-3.new.self at []
+    (c.in_ok-put-3.ensures.ok ∙ ap (with_words c.args.txn.now.writes at) c.new-3.ensures) c.in_default.ensures.marked
+    (made_may c.args.window.now.shape c.put-2.new.self c.args.txn.now.taken.items c.take_one.new.taken.items at c.in_ok-at.ensures.noted.noted) begun
+    (tied_noted c.args.window.now c.meet.new.rank (record c.args.txn.now { held = c.mark.new.held; taken = c.take_one.new.taken; chains = c.put.new.self }) c.put-2.new.self at []
+    (c.in_ok-put-2.ensures.ok ∙ ap (with_words c.args.txn.now.reads at) c.new-2.ensures) c.meet.ensures.known
     (subst Lasts (sym (ap (λ (l : Locks). hold_of l at) c.meet.ensures.locks ∙ (c.in_default.ensures.locks.same at ∙ c.in_default.ensures.marked))) tt)
     begun (unwritten_by c.args.window.now.shape c.args.txn.now at c.in_ok-at.ensures.noted.free c.in_ok-at.ensures.noted.unnoted c.requires.tied.writes c.meet.ensures.unread)
-    c.meet.ensures.tied)
+    (tied_beside c.args.window.now c.meet.new.rank (record c.args.txn.now { held = c.mark.new.held; taken = c.take_one.new.taken }) c.put.new.self c.meet.ensures.tied))
+
+pub returns-clause-chains : goal.returns-clause-chains
+returns-clause-chains g c =
+    let at = c.in_ok-at.at in
+    let was = c.args.txn.now in
+    let taken : KnowsChains c.take_one.new.rank.view (record was { taken = c.take_one.new.taken }) =
+    subst (λ (known : List (Place × Known)). HasChains known was.held was.chains was.reads was.writes)
+    (sym (ap (λ (v : View g.row.L-Note.Denot). v.known) c.take_one.ensures.only)) c.requires.chains in
+    let locked : KnowsChains c.mark.new.rank.view (record c.args.txn.now { held = c.mark.new.held; taken = c.take_one.new.taken }) =
+    chains_locked c.take_one.new.rank.view c.mark.new.rank.view at (record was { taken = c.take_one.new.taken }) c.mark.new.held c.mark.ensures.locked taken in
+    let here = empty_chain g.L.Law.fits c.args.window.now.shape c.meet.new.rank.view c.meet.ensures.truths at c.in_ok-at.ensures.noted.free.unreserved c.meet.ensures.known
+    ∙ ap Some (sym c.new.ensures) in
+    let noted : KnowsChains c.meet.new.rank.view (record c.args.txn.now { held = c.mark.new.held; taken = c.take_one.new.taken; chains = c.put.new.self }) =
+    chains_noted at c.new.result was.chains c.put.new.self c.in_ok-put.ensures.ok c.mark.new.rank.view c.meet.new.rank.view
+    (record c.args.txn.now { held = c.mark.new.held; taken = c.take_one.new.taken }) refl c.meet.ensures.others here (λ none. cc (sym c.in_default.ensures.marked ∙ none)) locked in
+    let read : KnowsChains c.meet.new.rank.view (record c.args.txn.now { held = c.mark.new.held; taken = c.take_one.new.taken; chains = c.put.new.self; reads = c.put-2.new.self }) =
+    chains_read c.meet.new.rank.view (record c.args.txn.now { held = c.mark.new.held; taken = c.take_one.new.taken; chains = c.put.new.self }) c.put-2.new.self at c.new-2.result c.in_ok-put-2.ensures.ok
+    (noted_here at c.new.result was.chains c.put.new.self c.in_ok-put.ensures.ok) noted in
+    chains_written c.meet.new.rank.view (record c.args.txn.now { held = c.mark.new.held; taken = c.take_one.new.taken; chains = c.put.new.self; reads = c.put-2.new.self }) c.put-3.new.self at c.new-3.result c.in_ok-put-3.ensures.ok
+    (noted_here at c.new.result was.chains c.put.new.self c.in_ok-put.ensures.ok) read

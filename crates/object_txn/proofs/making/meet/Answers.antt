@@ -5,6 +5,7 @@ use Rattle.window_rule.specs.Partition.{places_of, times}
 use Rattle.window_rule.specs.Truths.{IsTrueView}
 use Rattle.object_moves.proofs.Chains.{measured_is}
 use Rattle.object_txn.specs.Tied.{words_in}
+use Rattle.object_txn.proofs.NotedFacts.{known_elsewhere}
 use Rattle.object_txn.proofs.TiedFacts.{tied_loaded}
 use Rattle.object_txn.proofs.MakingFacts.{none_there, own_is_empty, read_is_empty, read_is_known}
 use Rattle.object_txn.proofs.making.meet.Goals as goal
@@ -37,3 +38,8 @@ returns-else-has-clause-known g c =
     let own : 0 < times c.args.at (places_of new.private) = subst (λ (v : View g.row.L-Note.Denot). 0 < times c.args.at (places_of v.private)) (sym told.view) c.requires.own in
     known ∙ ap Some (own_is_empty g.L.Law.fits c.args.window.now.shape new c.length-length.ensures.truths c.args.at own
     (known_of new.known c.args.at) refl told.known.content known)
+
+pub returns-else-has-clause-others : goal.returns-else-has-clause-others
+returns-else-has-clause-others g c =
+    let told = c.length-length.ensures.view in
+    known_elsewhere c.args.at told.known told.history c.args.rank.now.view c.length-length.new.self.view told.view

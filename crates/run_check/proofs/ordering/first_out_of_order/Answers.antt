@@ -1,4 +1,4 @@
-use Rattle.std.proofs.Common.{◌≡◌, ◌+◌, ◌≤◌, ◌++◌, ◌∷◌, [], suc, false, true, take, drop, drop-cons, arith, ap, subst, sym, ◌∙◌, refl}
+use Rattle.std.proofs.Common.{◌≡◌, ◌+◌, ◌++◌, ◌∷◌, [], suc, take, drop, drop-cons, arith, ap, subst, sym, ◌∙◌}
 use Rattle.std.proofs.lemmas.List.{take_more, drop_all}
 use Rattle.run_check.specs.Places.{NoneFails}
 use Rattle.run_check.specs.Ordering.{HasCome, MayFollow, TooEarly}

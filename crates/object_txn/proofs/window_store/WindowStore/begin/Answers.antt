@@ -11,23 +11,23 @@ use Rattle.object_txn.proofs.window_store.WindowStore.begin.Goals as goal
 pub returns-clause-keeps : goal.returns-clause-keeps
 returns-clause-keeps g c =
     let self = c.args.self.now in
-    let follows : Follows self.rank.now.view c.truths.new.self.view = search rules in
+    let follows : Follows self.rank.view c.truths.new.self.view = search rules in
     let tied : IsTied self.window.now c.truths.new.self self.txn = search rules in
-    continues g.L.Law.fits self.window.now self.rank.now c.truths.new.self self.txn self.txn follows c.truths.ensures.truths tied
+    continues g.L.Law.fits self.window.now self.rank c.truths.new.self self.txn self.txn follows c.truths.ensures.truths tied
     (λ _. c.truths.ensures.spares ∙ c.writer_try.ensures.spares)
 
 pub returns-clause-explained : goal.returns-clause-explained
 returns-clause-explained g c =
     let self = c.args.self.now in
-    was_refused self.window.now.shape OfGate Writer c.in-Err.word self.rank.now.view c.truths.new.self.view self.rank.now.view
+    was_refused self.window.now.shape OfGate Writer c.in-Err.word self.rank.view c.truths.new.self.view self.rank.view
     (c.truths.ensures.view ∙ c.in-Err.ensures.view) refl c.in-Err.ensures.cause (λ alone. cc (subst IsOk c.in-Err.is (c.writer_try.ensures.alone alone)))
 
 pub returns-2-clause-keeps : goal.returns-2-clause-keeps
 returns-2-clause-keeps g c =
     let self = c.args.self.now in
-    let txn : Txn = record { phase = c.if-writing-2.self; reads = self.txn.reads; writes = self.txn.writes; held = self.txn.held; taken = self.txn.taken } in
-    let follows : Follows self.rank.now.view c.truths-2.new.self.view = search rules in
+    let txn : Txn = record { phase = c.if-writing-2.self; reads = self.txn.reads; writes = self.txn.writes; held = self.txn.held; chains = self.txn.chains; taken = self.txn.taken } in
+    let follows : Follows self.rank.view c.truths-2.new.self.view = search rules in
     let tied : IsTied self.window.now c.truths-2.new.self txn = search rules in
-    let spares : c.truths-2.new.self.spares ≡ self.rank.now.spares = search rules in
-    continues g.L.Law.fits self.window.now self.rank.now c.truths-2.new.self self.txn txn follows c.truths-2.ensures.truths tied
+    let spares : c.truths-2.new.self.spares ≡ self.rank.spares = search rules in
+    continues g.L.Law.fits self.window.now self.rank c.truths-2.new.self self.txn txn follows c.truths-2.ensures.truths tied
     (λ _. spares)

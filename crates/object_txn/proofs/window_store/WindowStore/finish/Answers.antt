@@ -7,7 +7,7 @@ use Rattle.object_txn.proofs.window_store.WindowStore.finish.Goals as goal
 pub returns-clause-keeps : goal.returns-clause-keeps
 returns-clause-keeps g c =
     let self = c.args.self.now in
-    let follows : Follows self.rank.now.view c.truths.new.self.view = search rules in
-    let tied : IsTied self.window.now c.truths.new.self c.end_all.new.txn = search rules in
-    continues g.L.Law.fits self.window.now self.rank.now c.truths.new.self self.txn c.end_all.new.txn follows c.truths.ensures.truths tied
-    (λ quiet. c.truths.ensures.spares ∙ (c.end_all.ensures.spares quiet ∙ c.place-place.ensures.spares))
+    let follows : Follows self.rank.view c.end_all.new.rank.view = search rules in
+    let tied : IsTied self.window.now c.end_all.new.rank c.end_all.new.txn = search rules in
+    continues g.L.Law.fits self.window.now self.rank c.end_all.new.rank self.txn c.end_all.new.txn follows c.end_all.ensures.truths tied
+    (λ quiet. c.end_all.ensures.spares quiet ∙ c.place-place.ensures.spares)

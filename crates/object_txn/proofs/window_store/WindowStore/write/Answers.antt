@@ -1,5 +1,6 @@
 use Rattle.std.proofs.Common.{rules, List, ap, ◌∙◌, subst}
 use Rattle.window_rule.specs.Trails.{Follows}
+use Rattle.window_rule.proofs.Trails.{follows_trans}
 use Rattle.rma_layout.specs.Placement.{Place}
 use Rattle.object_txn.specs.Endings.{GivesEach}
 use Rattle.object_txn.specs.Tied.{IsTied}
@@ -10,27 +11,34 @@ use Rattle.object_txn.proofs.window_store.WindowStore.write.Goals as goal
 pub returns-in-Ok-clause-keeps : goal.returns-in-Ok-clause-keeps
 returns-in-Ok-clause-keeps g c =
     let self = c.args.self.now in
-    let follows : Follows self.rank.now.view c.truths.new.self.view = search rules in
+    let follows : Follows self.rank.view c.truths.new.self.view = search rules in
     let tied : IsTied self.window.now c.truths.new.self c.write_at.new.txn = search rules in
-    continues g.L.Law.fits self.window.now self.rank.now c.truths.new.self self.txn c.write_at.new.txn follows c.truths.ensures.truths tied
+    continues g.L.Law.fits self.window.now self.rank c.truths.new.self self.txn c.write_at.new.txn follows c.truths.ensures.truths tied
     (λ _. c.truths.ensures.spares ∙ c.write_at.ensures.spares)
 
 pub returns-in-Err-clause-explained : goal.returns-in-Err-clause-explained
 returns-in-Err-clause-explained g c =
     let self = c.args.self.now in
-    explains_later self.window.now.shape self.rank.now.view c.write_at.new.rank.view c.abort.new.self.rank.now.view c.in-Err.why
-    c.abort.ensures.follows c.in-Err.ensures.refused
+    explains_later self.window.now.shape self.rank.view c.write_at.new.rank.view c.end_all.new.rank.view c.in-Err.why
+    c.end_all.ensures.follows c.in-Err.ensures.refused
 
 pub write_at-requires-clause-may : goal.write_at-requires-clause-may
 write_at-requires-clause-may g c =
     let self = c.args.self.now in
-    may_be_written g.L.Law.fits self.window.now self.rank.now self.txn c.args.at self.tied c.requires.may
+    may_be_written g.L.Law.fits self.window.now self.rank self.txn c.args.at self.tied c.requires.may
 
 pub returns-in-Err-clause-given : goal.returns-in-Err-clause-given
 returns-in-Err-clause-given g c =
-    let back = c.abort.ensures.given in record {
+    let back = c.end_all.ensures.given in record {
       left = back.left;
       private = back.private ∙ c.write_at.ensures.private;
       spares = back.spares ∙ c.write_at.ensures.spares;
-      given = subst (λ (items : List Place). GivesEach items back.left c.abort.new.self.rank.now) (ap (λ taken. taken.items) c.write_at.ensures.taken) back.given;
+      given = subst (λ (items : List Place). GivesEach items back.left c.end_all.new.rank) (ap (λ taken. taken.items) c.write_at.ensures.taken) back.given;
     }
+
+pub returns-in-Err-clause-keeps : goal.returns-in-Err-clause-keeps
+returns-in-Err-clause-keeps g c =
+    let self = c.args.self.now in
+    continues g.L.Law.fits self.window.now self.rank c.end_all.new.rank self.txn c.end_all.new.txn
+    (follows_trans self.rank.view c.write_at.new.rank.view c.end_all.new.rank.view c.write_at.ensures.follows c.end_all.ensures.follows)
+    c.end_all.ensures.truths c.end_all.ensures.tied (λ quiet. absurd (quiet c.requires.begun))

@@ -1,0 +1,20 @@
+use Rattle.std.proofs.Common.{arith}
+use Rattle.plain_run.proofs.LoadLemmas.{few_entries, legal_behind}
+use Rattle.plain_run.proofs.runner.run_texts.Goals as goal
+
+pub run_script-requires : goal.run_script-requires
+run_script-requires c =
+    let few = few_entries c.in_ok-workload.workload.load in
+    let entries = c.in_ok-graph.ensures.entries in
+    let txns = c.in_ok-workload.ensures.script.form.few_txns in
+    omega (arith, few, entries, txns)
+
+pub returns : goal.returns
+returns c = record {
+  workload = c.in_ok-workload.workload;
+  run = c.in_ok-run.run'.printed;
+  are = c.in_ok-workload.ensures;
+  room = c.in_ok-graph.ensures.room;
+  legal = legal_behind c.args.geometry c.in_ok-workload.workload.load c.in_ok-workload.workload.script c.in_ok-graph.field-0 c.in_ok-run.run' c.in_ok-graph.ensures c.in_ok-run.ensures;
+  printed = c.in_ok-print_outcomes.ensures.text;
+}

@@ -1,0 +1,6 @@
+mod Visiting
+mod Walking
+mod Telling
+mod Knowing
+mod Replays
+mod Verdicts

@@ -1,0 +1,3 @@
+pub mod Visits
+pub mod Replaying
+pub mod Judging
