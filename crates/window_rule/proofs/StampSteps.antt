@@ -29,7 +29,7 @@ use Rattle.window_rule.proofs.Frames.{RightsHold-same, GateHolds-same, HistoryHo
 abbrev pub Opened : Type 0
 Opened = List (Place × Bool)
 
-opened-without_same : (opened : Opened) (object : Place)
+pub opened-without_same : (opened : Opened) (object : Place)
     → opened_of (without_opened opened object) object ≡ None
 opened-without_same [] object = refl
 opened-without_same (one ∷ more) object =
@@ -48,7 +48,7 @@ opened-without_same (one ∷ more) object =
           ∙ opened-without_same more object)
     ]
 
-opened-without_other : (opened : Opened) (object other : Place) → other ≢ object
+pub opened-without_other : (opened : Opened) (object other : Place) → other ≢ object
     → opened_of (without_opened opened object) other ≡ opened_of opened other
 opened-without_other [] object other ne = refl
 opened-without_other (one ∷ more) object other ne =
