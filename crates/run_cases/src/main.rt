@@ -52,7 +52,13 @@ fn run_loads<R: Files + Alloc<A = Global> + Print>(rt: &R, geometry: Geometry) -
     let nicknames = Some("nicknames.vertices");
     run(rt, geometry, Some("count.vertices"), None, "two_sections")?;
     run(rt, geometry, people, Some("people.edges"), "people")?;
-    run(rt, geometry, nicknames, Some("both_ways.edges"), "nicknames")?;
+    run(
+        rt,
+        geometry,
+        nicknames,
+        Some("both_ways.edges"),
+        "nicknames",
+    )?;
     run(rt, geometry, Some("no_records.vertices"), None, "first")
 }
 
@@ -60,7 +66,13 @@ fn run_faulty<R: Files + Alloc<A = Global> + Print>(rt: &R, geometry: Geometry) 
     let edges = Some("people.edges");
     run(rt, geometry, Some("twice.vertices"), edges, "people")?;
     run(rt, geometry, Some("cut.vertices"), edges, "people")?;
-    run(rt, geometry, Some("nicknames.vertices"), Some("neither_way.edges"), "nicknames")?;
+    run(
+        rt,
+        geometry,
+        Some("nicknames.vertices"),
+        Some("neither_way.edges"),
+        "nicknames",
+    )?;
     run(rt, geometry, None, edges, "cut_short")?;
     run(rt, geometry, Some("people.vertices"), None, "cut_short")?;
     run(rt, geometry, None, None, "ill_spelled")?;

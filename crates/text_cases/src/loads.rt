@@ -24,7 +24,12 @@ pub(crate) fn is_load_refused(
     }
     match load_txn(file, text, &mut graph) {
         Ok(_) => Ok(row == 0 && kind == 0),
-        Err(LoadRefused::Bad { row: told, kind: fault }) => Ok(told == row && fault.number() == kind),
+        Err(
+            LoadRefused::Bad {
+                row: told,
+                kind: fault,
+            },
+        ) => Ok(told == row && fault.number() == kind),
         Err(LoadRefused::NoMemory) => Err(NoMemory),
     }
 }
