@@ -1,5 +1,5 @@
 -- What becomes of the objects that a transaction has written.
-use Rattle.std.specs.Prelude.{◌≡◌, ◌≢◌, ℕ, ◌+◌, ◌<◌, ◌≤◌, List, [], ◌∷◌, drop, length, Bool, false, Some, None, ◌⊎◌}
+use Rattle.std.specs.Prelude.{◌≡◌, ◌≢◌, ℕ, ◌+◌, ◌<◌, ◌≤◌, List, [], ◌∷◌, drop, length, Bool, true, false, Some, None, ◌⊎◌}
 use Rattle.std.specs.List.{AllByRecursion}
 use Rattle.rma_layout.specs.Shape.{Shape}
 use Rattle.rma_layout.specs.Placement.{Place, IsBlock}
@@ -91,4 +91,11 @@ pub record AreOpened (all left : List Plan) (opened : List (Place × Bool)) : Ty
       → times object (objects_in left) ≡ 0 → opened_of opened object ≡ Some false
   pub others : (object : Place)
       → (times object (objects_in all) ≡ 0) ⊎ (0 < times object (objects_in left))
+      → opened_of opened object ≡ None
+
+-- the objects that are left are open, with a write of them committed, and no other is
+pub record AreToClose (left : List Plan) (opened : List (Place × Bool)) : Type 0 where
+  pub left_open : (object : Place) → 0 < times object (objects_in left)
+      → opened_of opened object ≡ Some true
+  pub others : (object : Place) → times object (objects_in left) ≡ 0
       → opened_of opened object ≡ None
