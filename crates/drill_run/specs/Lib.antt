@@ -1,4 +1,3 @@
 pub mod Summaries
-pub mod Arcs
 pub mod Drills
 pub mod Told

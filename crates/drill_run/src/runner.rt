@@ -3,7 +3,7 @@ ghost use Rattle.plain_run.specs.Running.{TellsFull};
 ghost use Rattle.drill_run.specs.Drills.{PrintsDrill, load_of};
 
 use crate::summary::Summary;
-use drill::{drill_load, drill_script};
+use drill::{all_edges, all_vertices, drill_script};
 use gdi_kinds::{Bytes, NoMemory};
 use plain_run::{Load, Loaded, RunRefused, take_load};
 use rma_layout::Geometry;
@@ -35,8 +35,8 @@ fn load_of(alloc: Global, n: u64, seed: u64) -> Result<Load, NoMemory>
     requires few { n ≤ 10000 }
     ensures { IfOk result (λ load. load ≡ load_of n seed) }
 {
-    let mut txns = drill_load(alloc, n, seed)?.into_vec();
-    let edges = txns.pop();
-    let vertices = txns.pop();
-    Ok(Load { vertices, edges })
+    Ok(Load {
+        vertices: Some(all_vertices(alloc, n)?),
+        edges: Some(all_edges(alloc, n, seed)?),
+    })
 }

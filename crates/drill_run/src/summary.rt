@@ -3,9 +3,7 @@ ghost use Rattle.graph_model.specs.Transactions.{replies_to};
 ghost use Rattle.drill_run.specs.Summaries.{full_count, is_full, number_line, summary_of, summary_text};
 ghost use Rattle.drill_run.specs.Told.{count_told, deepest_told, look_from, parts_told};
 
-use gdi_kinds::{
-    Bytes, Call, CallList, Line, NoMemory, Outcome, Printed, Reply, ReplyList, Txn,
-};
+use gdi_kinds::{Bytes, Call, CallList, Line, NoMemory, Outcome, Printed, Reply, ReplyList, Txn};
 use map_graph::ModelRefused;
 use plain_graph::PlainGraph;
 use serial_run::ScriptRun;
