@@ -4,7 +4,6 @@ use Rattle.std.specs.List.{filter, filter_map}
 use Rattle.std.specs.Fmt.{decimal}
 use Rattle.gdi_kinds.specs.declared.outcome.Outcome.{Outcome}
 use Rattle.gdi_kinds.specs.declared.outcome.Outcome.TheVariants.{Full}
-use Rattle.gdi_kinds.specs.declared.outcome.Line.{Line}
 use Rattle.gdi_kinds.specs.declared.outcome.Printed.{Printed}
 use Rattle.graph_model.specs.Maps.{keys}
 use Rattle.graph_model.specs.Graph.{Graph, is_vertex}
