@@ -1,6 +1,6 @@
 -- The run of a drill's script behind its load.
 use Rattle.std.proofs.Common.{◌≡◌, ℕ, zero, suc, ◌+◌, ◌*◌, ◌<◌, ◌≤◌, ◌%◌, true, cond, List, [], ◌∷◌, map, length, sum_by, ◌^◌, refl, sym, ap, subst, ◌∙◌, arith}
-use Rattle.std.specs.Prelude.{◌==◌, ◌-◌}
+use Rattle.std.specs.Prelude.{◌==◌}
 use Rattle.std.specs.List.{filter, range_with_len}
 use Rattle.std.proofs.Math.Nat.{suc-mul}
 use Rattle.std.proofs.lemmas.List.{length-map}
@@ -22,8 +22,7 @@ use Rattle.serial_run.proofs.SerialIsLegal.{serial_is_legal, serial_leaves_last}
 use Rattle.plain_run.specs.declared.loaded.Loaded.{Loaded}
 use Rattle.plain_run.specs.Loading.{HasLoaded}
 use Rattle.drill.specs.Drill.{all_edges, all_vertices, drill_load, drill_script, section_of, step_of}
-use Rattle.drill_run.specs.Drills.{load_of, PrintsDrill}
-use Rattle.drill_run.specs.Summaries.{summary_of, summary_text}
+use Rattle.drill_run.specs.Drills.{load_of}
 
 -- ---- the script is short
 
@@ -78,15 +77,6 @@ module _ (shape : Shape) (n seed : ℕ) (some : 0 < n) (loaded : Loaded) (run : 
 
   pub last : run.graph.graph ≡ last_graph shape load script run.printed
   last = left ∙ serial_leaves_last shape load script ∙ ap (last_graph shape load script) (sym printed)
-
-pub prints_drill : (shape : Shape) (n seed : ℕ) → 0 < n → (loaded : Loaded) (run : ScriptRun) → HasLoaded shape (load_of n seed) loaded → RunsScript loaded.graph loaded.entries (drill_script n seed) run
-    → PrintsDrill shape n seed (summary_text (summary_of run.graph.graph (n - 1) run.printed))
-prints_drill shape n seed some loaded run has runs = record {
-  run = run.printed;
-  room = has.room;
-  legal = legal shape n seed some loaded run has runs;
-  printed = ap (λ g. summary_text (summary_of g (n - 1) run.printed)) (last shape n seed some loaded run has runs);
-}
 
 -- the load has two transactions at the most, and the script eight for each vertex
 pub short_enough : (n seed entries : ℕ) → n ≤ 10000 → entries ≡ length (load_entries (drill_load n seed)) → entries + sum_by length (drill_script n seed) < 2 ^ 64

@@ -4,7 +4,8 @@ use Rattle.serial_run.specs.Runs.{RunsScript}
 use Rattle.plain_run.specs.Loading.{txns_of, HasLoaded}
 use Rattle.drill_run.specs.Drills.{PrintsDrill}
 use Rattle.drill_run.specs.Summaries.{summary_text}
-use Rattle.drill_run.proofs.Behind.{prints_drill, short_enough}
+use Rattle.drill_run.proofs.Behind.{short_enough}
+use Rattle.drill_run.proofs.Whole.{prints_drill}
 use Rattle.drill_run.proofs.runner.run_drill.Goals as goal
 
 pub run_script-requires : goal.run_script-requires
@@ -20,4 +21,4 @@ returns c =
     let has = subst (λ l. HasLoaded c.args.geometry l loaded) c.in_ok-load.ensures c.in_ok-graph.ensures in
     let runs = subst (λ script. RunsScript loaded.graph loaded.entries script run) c.in_ok-script.ensures c.in_ok-run.ensures in
     subst (PrintsDrill c.args.geometry c.args.n c.args.seed) (sym (c.in_ok-print.ensures ∙ ap summary_text c.in_ok-summary.ensures))
-    (prints_drill c.args.geometry c.args.n c.args.seed c.requires.some loaded run has runs)
+    (prints_drill c.args.geometry c.args.n c.args.seed c.requires.some c.requires.few loaded run has runs)
