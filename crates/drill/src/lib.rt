@@ -6,7 +6,7 @@ mod load;
 mod script;
 mod words;
 
-pub use load::drill_load;
+pub use load::{all_edges, all_vertices, drill_load};
 pub use script::drill_script;
 
 #[cfg(test)]

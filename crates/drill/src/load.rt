@@ -21,7 +21,8 @@ pub fn drill_load(alloc: Global, n: u64, seed: u64) -> Result<ListOf<Txn>, NoMem
     Ok(load)
 }
 
-fn all_vertices(alloc: Global, n: u64) -> Result<Txn, NoMemory>
+/// The first transaction of that load: it makes the vertices, each with its number, and the label on even ones.
+pub fn all_vertices(alloc: Global, n: u64) -> Result<Txn, NoMemory>
     requires { n ≤ 10000 }
     ensures { IfOk result (λ txn. txn ≡ all_vertices n) }
 {
@@ -54,7 +55,8 @@ fn add_vertex(calls: &mut CallList, id: u64) -> Result<(), NoMemory>
     Ok(())
 }
 
-fn all_edges(alloc: Global, n: u64, seed: u64) -> Result<Txn, NoMemory>
+/// The second transaction of that load: it makes as many edges as there are vertices, and their ends are drawn.
+pub fn all_edges(alloc: Global, n: u64, seed: u64) -> Result<Txn, NoMemory>
     requires { 0 < n }
     ensures { IfOk result (λ txn. txn ≡ all_edges n seed) }
 {

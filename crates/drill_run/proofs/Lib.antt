@@ -1,0 +1,8 @@
+mod Behind
+mod Looking
+mod Ranges
+mod Drilled
+mod Transactions
+mod Serial
+mod Expected
+mod Whole
