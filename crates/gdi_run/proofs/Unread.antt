@@ -117,9 +117,9 @@ module _ (old mid new : Told) (source : Source) (script output : Text) where
         files = last.files ∙ run.files;
         ok = (
           if_some_both old.files (λ files. texts ≡ texts_in files (names_with source script None)) (λ files. bytes ≡ bytes_of files output) (λ files. record { texts = texts; output = bytes } ≡ both files)
-          (λ files texts_are bytes_are.
-            ap (λ (t : Given). (record { texts = t; output = bytes })) texts_are ∙ ap (λ (b : List ℕ). (record { texts = texts_in files (names_with source script None); output = b })) bytes_are)
-          run.ok.0 output_is,
+              (λ files texts_are bytes_are.
+              ap (λ (t : Given). (record { texts = t; output = bytes })) texts_are ∙ ap (λ (b : List ℕ). (record { texts = texts_in files (names_with source script None); output = b })) bytes_are)
+              run.ok.0 output_is,
           last.ok.1,
         );
         short = run.short;

@@ -209,10 +209,7 @@ fn outputs_are_checked(rt: HostRuntime) -> Result<(), Fail> {
 fn a_section_keeps_its_order(rt: HostRuntime) -> Result<(), Fail> {
     let alloc = rt.alloc();
     let files = [
-        (
-            "s",
-            "section\ntxn\nvertex 7\nend\ntxn\nhas 7\nend\n",
-        ),
+        ("s", "section\ntxn\nvertex 7\nend\ntxn\nhas 7\nend\n"),
         ("early", "1.1 w 0\n done\n1.2 r 0\n no\nwrites 1\n"),
         ("behind", "1.1 w 0\n done\n1.2 r 1\n yes\nwrites 1\n"),
     ];
@@ -276,7 +273,15 @@ fn what_was_run_is_legal(rt: HostRuntime) -> Result<(), Fail> {
     let mut shelf = MemShelf::new(files, NumList::new(alloc));
     let [ranks, blocks, words, buckets, slots] = sizes;
     let words = ["check", ranks, blocks, words, buckets, slots, "s", "o"];
-    answers(&rt, alloc, &words, &mut shelf, 1000, Status::Done, "legal\n")
+    answers(
+        &rt,
+        alloc,
+        &words,
+        &mut shelf,
+        1000,
+        Status::Done,
+        "legal\n",
+    )
 }
 
 #[test]

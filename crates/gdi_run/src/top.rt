@@ -29,11 +29,13 @@ pub fn gdi_main<F: Shelf, K: Sink>(
     };
     match read_words(alloc, name, others.as_slice()) {
         Ok(Command::Run { source, script }) => run_files(alloc, &source, script, shelf, out),
-        Ok(Command::Check {
-            source,
-            script,
-            output,
-        }) => check_files(alloc, &source, script, output, shelf, out),
+        Ok(
+            Command::Check {
+                source,
+                script,
+                output,
+            },
+        ) => check_files(alloc, &source, script, output, shelf, out),
         Ok(Command::Report { .. }) => Status::Usage(UsageKind::Command),
         Ok(Command::Drill { .. }) => Status::Usage(UsageKind::Command),
         Err(WordsRefused::Usage(kind)) => Status::Usage(kind),
