@@ -1,5 +1,6 @@
 pub mod Outputs
 pub mod Runs
+pub mod Told
 pub mod WrongLine
 pub mod Reading
 pub mod OldOutputs

@@ -17,9 +17,13 @@ pub(crate) trait Item: Sized {
     /// What an item that has a text keeps.
     ghost Fits: { Self → Type 0 };
 
+    /// What an item keeps of which the text tells all.
+    ghost Told: { Self → Type 0 };
+
     /// Writes the item.
     fn print(&self, out: &mut Vec<u8>) -> Result<(), NoMemory>
-        ensures { OnOk result (out.new.items ≡ out.old.items ++ text self.now) };
+        ensures printed { OnOk result (out.new.items ≡ out.old.items ++ text self.now) }
+        ensures fits { OnOk result (Told self.now → Fits self.now) };
 
     /// The item that a word is.
     fn read(alloc: Global, word: &[u8]) -> Result<Option<Self>, NoMemory>
@@ -30,7 +34,8 @@ pub(crate) trait Item: Sized {
 
 /// Writes items, each behind a space.
 pub(crate) fn print_items<T: Item>(out: &mut Vec<u8>, items: &[T]) -> Result<(), NoMemory>
-    ensures { OnOk result (out.new.items ≡ out.old.items ++ items_text (map T.text items.now)) }
+    ensures printed { OnOk result (out.new.items ≡ out.old.items ++ items_text (map T.text items.now)) }
+    ensures fit { OnOk result (AllByRecursion (λ item. T.Told item → T.Fits item) items.now) }
 {
     for item in items {
         out.push(b' ')?;
@@ -66,6 +71,8 @@ impl Item for u64 {
 
     ghost Fits = { λ n. IsNumber n };
 
+    ghost Told = { λ _. Unit {0} };
+
     fn print(&self, out: &mut Vec<u8>) -> Result<(), NoMemory> {
         print_number(out, *self)
     }
@@ -81,6 +88,8 @@ impl Item for Name {
     ghost text = { λ name. name };
 
     ghost Fits = { λ name. IsName name };
+
+    ghost Told = { λ _. Unit {0} };
 
     fn print(&self, out: &mut Vec<u8>) -> Result<(), NoMemory> {
         print_name(out, self)
@@ -98,6 +107,8 @@ impl Item for Value {
 
     ghost Fits = { λ v. IsValue v };
 
+    ghost Told = { λ _. Unit {0} };
+
     fn print(&self, out: &mut Vec<u8>) -> Result<(), NoMemory> {
         print_value(out, self)
     }
@@ -114,6 +125,8 @@ impl Item for PropLine {
     ghost text = { λ prop. prop_text prop };
 
     ghost Fits = { λ prop. IsPropLine prop };
+
+    ghost Told = { λ _. Unit {0} };
 
     fn print(&self, out: &mut Vec<u8>) -> Result<(), NoMemory> {
         print_name(out, &self.name)?;
@@ -134,6 +147,8 @@ impl Item for Pair {
 
     ghost Fits = { λ pair. IsPair pair };
 
+    ghost Told = { λ _. Unit {0} };
+
     fn print(&self, out: &mut Vec<u8>) -> Result<(), NoMemory> {
         print_number(out, self.id)?;
         out.push(b':')?;
@@ -148,10 +163,13 @@ impl Item for Pair {
 impl Item for EdgeLine {
     ghost use Rattle.outcome_text.specs.Outputs.{edge_text};
     ghost use Rattle.outcome_text.specs.Runs.{IsEdgeLine};
+    ghost use Rattle.outcome_text.specs.Told.{EndIsTold};
 
     ghost text = { λ line. edge_text line };
 
     ghost Fits = { λ line. IsEdgeLine line };
+
+    ghost Told = { λ line. EndIsTold line };
 
     fn print(&self, out: &mut Vec<u8>) -> Result<(), NoMemory> {
         let way: &[u8] = if self.undirected {

@@ -1,6 +1,7 @@
 ghost use Rattle.std.specs.Prelude.{◌≡◌, ◌++◌, ◌∷◌, IfOk, OnOk};
-ghost use Rattle.std.specs.List.{flat_map};
-ghost use Rattle.outcome_text.specs.Runs.{IsRun, IsOutputAlone};
+ghost use Rattle.std.specs.List.{flat_map, AllByRecursion};
+ghost use Rattle.outcome_text.specs.Runs.{IsLine, IsReply, IsOutputAlone};
+ghost use Rattle.outcome_text.specs.Told.{OutcomeIsTold, ReplyIsTold, RunIsTold};
 ghost use Rattle.outcome_text.specs.Outputs.{output_text, line_text, reply_line, reply_word, reply_items, items_text};
 
 use crate::items::print_items;
@@ -12,7 +13,7 @@ use text_words::{print_number, print_value};
 /// no item of an undirected edge is inward, it is the text of this run alone, and `read_outcomes` gives the run back.
 pub fn print_outcomes(alloc: Global, printed: &Printed) -> Result<Bytes, NoMemory>
     ensures text { IfOk result (λ bytes. bytes ≡ output_text printed.now) }
-    ensures alone { IsRun printed.now → IfOk result (λ bytes. IsOutputAlone bytes printed.now) }
+    ensures alone { RunIsTold printed.now → IfOk result (λ bytes. IsOutputAlone bytes printed.now) }
 {
     let mut out = Vec::new(alloc);
     for line in printed.lines.as_slice() {
@@ -25,7 +26,8 @@ pub fn print_outcomes(alloc: Global, printed: &Printed) -> Result<Bytes, NoMemor
 }
 
 fn print_line(out: &mut Vec<u8>, line: &Line) -> Result<(), NoMemory>
-    ensures { OnOk result (out.new.items ≡ out.old.items ++ line_text line.now) }
+    ensures printed { OnOk result (out.new.items ≡ out.old.items ++ line_text line.now) }
+    ensures fits { OnOk result (OutcomeIsTold line.now.outcome → IsLine line.now) }
 {
     print_number(out, line.section)?;
     out.push(b'.')?;
@@ -55,7 +57,8 @@ fn print_line(out: &mut Vec<u8>, line: &Line) -> Result<(), NoMemory>
 }
 
 fn print_replies(out: &mut Vec<u8>, replies: &[Reply]) -> Result<(), NoMemory>
-    ensures { OnOk result (out.new.items ≡ out.old.items ++ flat_map reply_line replies.now) }
+    ensures printed { OnOk result (out.new.items ≡ out.old.items ++ flat_map reply_line replies.now) }
+    ensures fit { OnOk result (AllByRecursion (λ reply. ReplyIsTold reply → IsReply reply) replies.now) }
 {
     for reply in replies {
         out.push(b' ')?;
@@ -99,7 +102,8 @@ fn word_of_reply(reply: &Reply) -> &'static [u8]
 
 // Writes what stands behind the word of a reply.
 fn print_reply_items(out: &mut Vec<u8>, reply: &Reply) -> Result<(), NoMemory>
-    ensures { OnOk result (out.new.items ≡ out.old.items ++ items_text (reply_items reply.now)) }
+    ensures printed { OnOk result (out.new.items ≡ out.old.items ++ items_text (reply_items reply.now)) }
+    ensures fits { OnOk result (ReplyIsTold reply.now → IsReply reply.now) }
 {
     match reply {
         Reply::NoVertex(n) | Reply::Count(n) => print_items(out, &[*n]),
