@@ -1,2 +1,3 @@
-mod LoadLemmas
+pub mod LoadLemmas
+mod ToldReplies
 pub mod RightTexts

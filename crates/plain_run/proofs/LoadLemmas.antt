@@ -1,8 +1,7 @@
 -- A load of two files as a list of transactions, and the run of a script behind it.
-use Rattle.std.proofs.Common.{◌≡◌, ℕ, suc, ◌+◌, ◌≤◌, Bool, true, false, not, cond, IsTrue, List, [], ◌∷◌, ◌++◌, length, Option, Some, None, refl, sym, ap, subst, ◌∙◌, arith, length-append}
+use Rattle.std.proofs.Common.{◌≡◌, ◌+◌, ◌≤◌, Bool, true, false, not, cond, IsTrue, List, [], ◌∷◌, ◌++◌, length, Option, Some, None, refl, sym, ap, subst, ◌∙◌, arith}
 use Rattle.std.specs.Option.{option_to_list}
 use Rattle.gdi_kinds.specs.declared.txn.Txn.{Txn}
-use Rattle.gdi_kinds.specs.declared.outcome.Printed.{Printed}
 use Rattle.gdi_kinds.specs.Calls.{is_writing}
 use Rattle.rma_layout.specs.Shape.{Shape}
 use Rattle.graph_model.specs.Graph.{Graph, empty_graph}
@@ -88,6 +87,17 @@ entries_add (Some v) edges = entries_of_both v edges (is_writing v)
 pub few_entries : (load : Load) → length (load_entries (txns_of load)) ≤ 2
 few_entries load = omega (arith, entries_add load.vertices load.edges, at_most_one load.vertices, at_most_one load.edges)
 
+-- ---- the graph behind a load
+
+pub behind_shape : (shape : Shape) (load : Load) → (behind_load shape load).shape ≡ shape
+behind_shape shape load = shape_behind (behind_vertices shape load) load.edges ∙ shape_behind (empty_plain shape) load.vertices
+
+pub behind_graph : (shape : Shape) (load : Load) → (behind_load shape load).graph ≡ graph_after_txns shape empty_graph (load_entries (txns_of load))
+behind_graph shape load = sym (entries_alone shape empty_graph (txns_of load) ∙ both_files shape load.vertices load.edges)
+
+pub load_has_room : (shape : Shape) (load : Load) → HasRoom shape load → HaveRoom shape empty_graph (load_entries (txns_of load))
+load_has_room shape load room = entries_have_room shape empty_graph (txns_of load) (both_have_room shape load.vertices load.edges room.vertices room.edges)
+
 -- ---- the run
 
 pub legal_behind : (shape : Shape) (load : Load) (script : List (List Txn)) (loaded : Loaded) (run : ScriptRun)
@@ -96,14 +106,10 @@ legal_behind shape load script loaded run has runs =
     let ps = transactions_of script in
     let txns = txns_of load in
     let k = length (load_entries txns) in
-    let room = entries_have_room shape empty_graph txns (both_have_room shape load.vertices load.edges has.room.vertices has.room.edges) in
-    let shape_is : (behind_load shape load).shape ≡ shape = shape_behind (behind_vertices shape load) load.edges ∙ shape_behind (empty_plain shape) load.vertices in
-    let graph_is : (behind_load shape load).graph ≡ graph_after_txns shape empty_graph (load_entries txns)
-    = sym (entries_alone shape empty_graph txns ∙ both_files shape load.vertices load.edges) in
     let printed : run.printed ≡ run_after shape txns script
     = runs.printed
     ∙ ap (λ (plain : Plain). serial_run plain.shape plain.graph loaded.entries ps) has.graph
     ∙ ap (λ n. serial_run (behind_load shape load).shape (behind_load shape load).graph n ps) has.entries
-    ∙ ap (λ s. serial_run s (behind_load shape load).graph k ps) shape_is
-    ∙ ap (λ g. serial_run shape g k ps) graph_is in
-    subst (IsLegalRun shape txns script) (sym printed) (serial_is_legal shape txns script room)
+    ∙ ap (λ s. serial_run s (behind_load shape load).graph k ps) (behind_shape shape load)
+    ∙ ap (λ g. serial_run shape g k ps) (behind_graph shape load) in
+    subst (IsLegalRun shape txns script) (sym printed) (serial_is_legal shape txns script (load_has_room shape load has.room))

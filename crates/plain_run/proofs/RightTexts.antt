@@ -4,16 +4,17 @@ use Rattle.gdi_kinds.specs.declared.txn.Txn.{Txn}
 use Rattle.rma_layout.specs.Shape.{Shape}
 use Rattle.map_graph.specs.Plain.{Plain}
 use Rattle.script_text.proofs.FaultlessLaw.{spelling_text_is_faultless}
+use Rattle.script_text.proofs.ScriptLaw.{one_script}
 use Rattle.bulk_load.specs.declared.load_fault.LoadFault.{LoadFault}
 use Rattle.bulk_load.specs.declared.load_file.LoadFile.{LoadFile}
 use Rattle.bulk_load.specs.declared.load_file.LoadFile.TheVariants.{Vertices, Edges}
 use Rattle.bulk_load.proofs.AloneLemmas.{one_transaction, not_wrong}
 use Rattle.plain_run.specs.declared.load.Load.{Load}
-use Rattle.plain_run.specs.declared.run_refused.RunRefused.{RunRefused}
 use Rattle.plain_run.specs.declared.run_refused.RunRefused.TheVariants.{BadLoad, BadScript, LoadFull, NoMemory}
 use Rattle.plain_run.specs.declared.workload.Workload.{Workload}
-use Rattle.plain_run.specs.Loading.{behind, behind_vertices, empty_plain, full_for, HasRoom, IsFullAt, IsLoad, IsWrongFile, LoadsFile}
-use Rattle.plain_run.specs.Running.{RightTextsAreNotRefused}
+use Rattle.plain_run.specs.Given.{Given}
+use Rattle.plain_run.specs.Loading.{behind, behind_vertices, empty_plain, full_for, IsFullAt, IsLoad, IsWrongFile, LoadsFile}
+use Rattle.plain_run.specs.Running.{AreTexts, RightTextsAreNotRefused}
 
 file_same : (of : LoadFile) (text : Option (List ℕ)) (before : Plain) (a b : Option Txn) → LoadsFile of text before a → LoadsFile of text before b → a ≡ b
 file_same of None before None None left right = refl
@@ -34,6 +35,12 @@ load_same shape vertex_file edge_file a b left right =
     let edges = file_same Edges edge_file (behind_vertices shape b) a.edges b.edges
     (subst (λ (v : Option Txn). LoadsFile Edges edge_file (behind (empty_plain shape) v) a.edges) vertices left.edges) right.edges in
     ap (λ (v : Option Txn). (record { vertices = v; edges = a.edges })) vertices ∙ ap (λ (e : Option Txn). (record { vertices = b.vertices; edges = e })) edges
+
+-- texts are one load and one script
+pub workload_same : (shape : Shape) (texts : Given) (a b : Workload) → AreTexts shape texts a → AreTexts shape texts b → a ≡ b
+workload_same shape texts a b left right =
+    ap (λ (l : Load). (record { load = l; script = a.script })) (load_same shape texts.vertices texts.edges a.load b.load left.load right.load)
+    ∙ ap (λ (s : List (List Txn)). (record { load = b.load; script = s })) (one_script texts.script a.script b.script left.script right.script)
 
 not_full : (full : Option ℕ) (rank : ℕ) → full ≡ None → ¬ (full ≡ Some rank)
 not_full full rank none some = let e : ◌≡◌ {A = Option ℕ} None (Some rank) = sym none ∙ some in absurd (cc)

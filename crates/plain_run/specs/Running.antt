@@ -5,7 +5,7 @@ use Rattle.rma_layout.specs.Shape.{Shape}
 use Rattle.graph_model.specs.LegalRun.{IsLegalRun}
 use Rattle.script_text.specs.Scripts.{Spells}
 use Rattle.script_text.specs.Faults.{IsFirstFault}
-use Rattle.outcome_text.specs.Outputs.{output_text}
+use Rattle.outcome_text.specs.Runs.{IsOutput}
 use Rattle.plain_run.specs.declared.load.Load.{Load}
 use Rattle.plain_run.specs.declared.run_refused.RunRefused.{RunRefused}
 use Rattle.plain_run.specs.declared.run_refused.RunRefused.TheVariants.{BadLoad, BadScript, LoadFull, NoMemory}
@@ -18,14 +18,14 @@ pub record AreTexts (shape : Shape) (texts : Given) (workload : Workload) : Type
   pub load : IsLoad shape texts.vertices texts.edges workload.load
   pub script : Spells texts.script workload.script
 
--- what a legal run of texts prints: they are a load that has room, and a script
+-- what a legal run of texts prints: they are a load that has room, and a script, and the output spells the run
 pub record PrintsLegalRun (shape : Shape) (texts : Given) (output : List ℕ) : Type 0 where
   pub workload : Workload
   pub run : Printed
   pub are : AreTexts shape texts workload
   pub room : HasRoom shape workload.load
   pub legal : IsLegalRun shape (txns_of workload.load) workload.script run
-  pub printed : output ≡ output_text run
+  pub printed : IsOutput output run
 
 -- why load files aren't read
 abbrev pub TellsBadLoad : Shape → Option (List ℕ) → Option (List ℕ) → RunRefused → Type 0
