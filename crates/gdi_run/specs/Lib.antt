@@ -1,4 +1,3 @@
 pub mod Commands
 pub mod Reading
-pub mod Statuses
 pub mod Answer

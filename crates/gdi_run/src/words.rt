@@ -13,8 +13,8 @@ pub(crate) fn command_in(words: &[CommandWord]) -> Option<(CommandName, &[Comman
 {
     match words {
         [word, others @ ..] => match CommandName::of(word.text()) {
-            None | Some(CommandName::Report | CommandName::Drill) => None,
-            Some(name) => Some((name, others)),
+            Some(CommandName::Run) => Some((CommandName::Run, others)),
+            _ => None,
         },
         _ => None,
     }
