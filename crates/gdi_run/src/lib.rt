@@ -1,7 +1,9 @@
 //! The top call: from the words of a command line to the bytes of its output.
 #![tactic(auto)]
 
+mod check;
 mod reading;
+mod refusals;
 mod run;
 mod status;
 mod top;

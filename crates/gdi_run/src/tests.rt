@@ -168,6 +168,123 @@ fn faults_are_answered(rt: HostRuntime) -> Result<(), Fail> {
 }
 
 #[test]
+fn outputs_are_checked(rt: HostRuntime) -> Result<(), Fail> {
+    let alloc = rt.alloc();
+    let load = ":ID,:LABEL,n:int\n1,,0\n";
+    let script = "section\ntxn\nget 1 n\nset 1 n 5\nend\nsection\ntxn\nget 1 n\nset 1 n 9\nend\n";
+    let unseen = Status::Illegal {
+        clause: 4,
+        section: 2,
+        txn: 1,
+    };
+    let bad = Status::BadOutput { line: 1 };
+    for (output, status, written) in [
+        (
+            "1.1 w 1\n value 0\n done\n2.1 w 2\n value 5\n done\nwrites 3\n",
+            Status::Done,
+            "legal\n",
+        ),
+        (
+            "1.1 w 2\n value 9\n done\n2.1 w 1\n value 0\n done\nwrites 3\n",
+            Status::Done,
+            "legal\n",
+        ),
+        (
+            "1.1 w 1\n value 0\n done\n2.1 w 2\n value 0\n done\nwrites 3\n",
+            unseen,
+            "",
+        ),
+        ("hello", bad, ""),
+        ("", bad, ""),
+    ] {
+        let files = [("v", load), ("s", script), ("o", output)];
+        let mut shelf = shelf_with(alloc, &files, &[])?;
+        let words = ["check", "--vertices=v", "s", "o"];
+        answers(&rt, alloc, &words, &mut shelf, 1000, status, written)?;
+    }
+    Ok(())
+}
+
+#[test]
+fn a_section_keeps_its_order(rt: HostRuntime) -> Result<(), Fail> {
+    let alloc = rt.alloc();
+    let files = [
+        ("s", "section\ntxn\nvertex 7\nend\ntxn\nhas 7\nend\n"),
+        ("early", "1.1 w 0\n done\n1.2 r 0\n no\nwrites 1\n"),
+        ("behind", "1.1 w 0\n done\n1.2 r 1\n yes\nwrites 1\n"),
+    ];
+    let early = Status::Illegal {
+        clause: 3,
+        section: 1,
+        txn: 2,
+    };
+    for (output, status, written) in [("early", early, ""), ("behind", Status::Done, "legal\n")] {
+        let mut shelf = shelf_with(alloc, &files, &[])?;
+        let words = ["check", "s", output];
+        answers(&rt, alloc, &words, &mut shelf, 1000, status, written)?;
+    }
+    Ok(())
+}
+
+// Two sections that make and drop one vertex again and again.
+fn making_and_dropping(alloc: Global) -> Result<Bytes, Fail> {
+    let mut script = Vec::new(alloc);
+    for _ in 0..2 {
+        script.extend_from_slice(b"section\n")?;
+        for _ in 0..1000 {
+            script.extend_from_slice(b"txn\nvertex 7\nend\ntxn\ndrop 7\nend\n")?;
+        }
+    }
+    Ok(Bytes::from_vec(script))
+}
+
+#[test]
+fn what_was_run_is_legal(rt: HostRuntime) -> Result<(), Fail> {
+    let alloc = rt.alloc();
+    let sizes = [
+        "--ranks=2",
+        "--blocks=32",
+        "--words=8",
+        "--buckets=2",
+        "--slots=2",
+    ];
+    let mut files = FileList::new(alloc);
+    files.push(NamedBytes {
+        name: bytes_of(alloc, "s")?,
+        bytes: making_and_dropping(alloc)?,
+    })?;
+    let mut shelf = MemShelf::new(files, NumList::new(alloc));
+    let mut words = words_of(alloc, &["run", "s"])?;
+    for size in sizes {
+        words.push(CommandWord::of(alloc, size)?)?;
+    }
+    let mut sink = MemSink::new(alloc, 1_000_000, NumList::new(alloc));
+    let answer = gdi_main(alloc, &words, &mut shelf, &mut sink);
+    assert_eq!(rt; answer, Status::Done);
+    let mut files = FileList::new(alloc);
+    files.push(NamedBytes {
+        name: bytes_of(alloc, "s")?,
+        bytes: making_and_dropping(alloc)?,
+    })?;
+    files.push(NamedBytes {
+        name: bytes_of(alloc, "o")?,
+        bytes: Bytes::from_vec(Vec::from_slice(alloc, sink.bytes())?),
+    })?;
+    let mut shelf = MemShelf::new(files, NumList::new(alloc));
+    let [ranks, blocks, words, buckets, slots] = sizes;
+    let words = ["check", ranks, blocks, words, buckets, slots, "s", "o"];
+    answers(
+        &rt,
+        alloc,
+        &words,
+        &mut shelf,
+        1000,
+        Status::Done,
+        "legal\n",
+    )
+}
+
+#[test]
 fn words_are_told(rt: HostRuntime) -> Result<(), Fail> {
     let alloc = rt.alloc();
     let command = Status::Usage(UsageKind::Command);
