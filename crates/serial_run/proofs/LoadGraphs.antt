@@ -23,7 +23,7 @@ item_there (x ∷ xs) (suc n) lt = item_there xs n (omega arith)
 
 module _ (shape : Shape) (entry : ℕ → Option Txn) where
   -- the entries from place i on are these transactions
-  abbrev AreEntries : ℕ → List Txn → Type 0
+  abbrev pub AreEntries : ℕ → List Txn → Type 0
   AreEntries i [] = Unit {0}
   AreEntries i (txn ∷ txns) = (entry i ≡ Some txn) × AreEntries (i + 1) txns
 

@@ -21,8 +21,8 @@ use Rattle.graph_model.specs.Placed.{Placed, transactions_of, pairs_of, entry_nu
 use Rattle.graph_model.specs.History.{load_entries, entry_at, is_entry, graph_after}
 use Rattle.graph_model.specs.LegalRun.{MayEnd, FitsScript, IsDistinct, numbers_of, reading_places, MayStandBefore, KeepsSessionOrder, HasReplies, EndsByCapacity, IsLegalRun}
 use Rattle.graph_model.proofs.Transactions.{abort_leaves, looking_leaves}
-use Rattle.serial_run.specs.Serial.{ends, entries_after, line_on, next_entries, next_graph, serial_lines, serial_writes, graph_after_txns, SerialRunsAreLegal}
-use Rattle.serial_run.proofs.LoadGraphs.{item_past, item_there, graph_along, room_along, are_entries}
+use Rattle.serial_run.specs.Serial.{ends, entries_after, line_on, next_entries, next_graph, serial_lines, serial_graph, serial_writes, graph_after_txns, graph_behind, run_after, SerialRunsAreLegal, SerialRunsLeaveTheirLastGraph}
+use Rattle.serial_run.proofs.LoadGraphs.{item_past, item_there, graph_along, room_along, are_entries, AreEntries}
 
 -- ---- the lines fit the script
 
@@ -213,13 +213,14 @@ module _ (shape : Shape) (load : List Txn) (pairs : List (Placed × Line)) where
   abbrev graph_at : ℕ → Graph
   graph_at = graph_after shape (entry_at load pairs)
 
-  record Hold (rest : List (Placed × Line)) : Type 0 where
+  record Hold (rest : List (Placed × Line)) (left : Graph) (writes : ℕ) : Type 0 where
     replies : AllByRecursion (λ pair. HasReplies shape graph_at pair.0.txn pair.1.outcome) rest
     room : AllByRecursion (λ pair. EndsByCapacity shape graph_at pair.0.txn pair.1.outcome) rest
+    last : left ≡ graph_at writes
 
   all_hold : (before : List (Placed × Line)) (g : Graph) (k : ℕ) (ps : List Placed) → length (load_entries load) ≤ k → pairs ≡ before ++ zip ps (serial_lines shape g k ps)
-      → AllByRecursion (λ pair. Below k pair.1) before → g ≡ graph_at k → Hold (zip ps (serial_lines shape g k ps))
-  all_hold before g k [] le split below here = record { replies = tt; room = tt }
+      → AllByRecursion (λ pair. Below k pair.1) before → g ≡ graph_at k → Hold (zip ps (serial_lines shape g k ps)) (serial_graph shape g ps) (serial_writes shape g k ps)
+  all_hold before g k [] le split below here = record { replies = tt; room = tt; last = here }
   all_hold before g k (p ∷ ps) le split below here =
       let a = p.txn.aborts in
       let w = is_writing p.txn in
@@ -239,6 +240,7 @@ module _ (shape : Shape) (load : List Txn) (pairs : List (Placed × Line)) where
       record {
         replies = (replies_hold shape graph_at g p.txn a w full k here, others.replies);
         room = (room_holds shape graph_at g p.txn a w full k rs here refl, others.room);
+        last = others.last;
       }
 
 -- a load's entries come first
@@ -247,6 +249,25 @@ entry_of_load load pairs j lt =
     let there = item_there (load_entries load) j lt in
     rw there.1 refl
 
+-- the entries of a load lead to the graph behind them
+module _ (shape : Shape) (load : List Txn) (pairs : List (Placed × Line)) where
+  entries_first : AreEntries shape (entry_at load pairs) 0 (load_entries load)
+  entries_first = are_entries shape (entry_at load pairs) 0 (load_entries load)
+      (λ j lt. let same : 0 + j ≡ j = omega arith in ap (entry_at load pairs) same ∙ entry_of_load load pairs j lt)
+
+  start : graph_after_txns shape empty_graph (load_entries load) ≡ graph_after shape (entry_at load pairs) (length (load_entries load))
+  start =
+      let from_zero : 0 + length (load_entries load) ≡ length (load_entries load) = omega arith in
+      graph_along shape (entry_at load pairs) empty_graph 0 (load_entries load) refl entries_first ∙ ap (graph_after shape (entry_at load pairs)) from_zero
+
+module _ (shape : Shape) (load : List Txn) (script : List (List Txn)) where
+  abbrev pairs : List (Placed × Line)
+  pairs = pairs_of script (run_after shape load script).lines
+
+  holds : Hold shape load pairs pairs (graph_behind shape load script) (run_after shape load script).writes
+  holds = all_hold shape load pairs [] (graph_after_txns shape empty_graph (load_entries load)) (length (load_entries load)) (transactions_of script) (omega arith) refl tt
+      (start shape load pairs)
+
 -- a run one after the other, on a load that has room, is legal
 pub serial_is_legal : SerialRunsAreLegal
 serial_is_legal shape load script room =
@@ -254,17 +275,18 @@ serial_is_legal shape load script room =
     let entries = load_entries load in
     let g = graph_after_txns shape empty_graph entries in
     let k = length entries in
-    let pairs = pairs_of script (serial_lines shape g k ps) in
-    let are = are_entries shape (entry_at load pairs) 0 entries (λ j lt. let same : 0 + j ≡ j = omega arith in ap (entry_at load pairs) same ∙ entry_of_load load pairs j lt) in
-    let from_zero : 0 + k ≡ k = omega arith in
-    let start : g ≡ graph_after shape (entry_at load pairs) k = graph_along shape (entry_at load pairs) empty_graph 0 entries refl are ∙ ap (graph_after shape (entry_at load pairs)) from_zero in
+    let entry = entry_at load (pairs shape load script) in
     let numbers = numbered shape g k ps in
-    let hold = all_hold shape load pairs [] g k ps (omega arith) refl tt start in
+    let hold = holds shape load script in
     record {
       fits_script = fits_script shape g k ps;
       is_numbered = record { count = numbers.count; numbers = numbers.numbers; once = numbers.once; places = numbers.places };
       in_order = in_order shape g k ps;
-      load_room = room_along shape (entry_at load pairs) empty_graph 0 entries refl are room;
+      load_room = room_along shape entry empty_graph 0 entries refl (entries_first shape load (pairs shape load script)) room;
       replies = hold.replies;
       room = hold.room;
     }
+
+-- and the graph behind it is that of its last entry
+pub serial_leaves_last : SerialRunsLeaveTheirLastGraph
+serial_leaves_last shape load script = (holds shape load script).last

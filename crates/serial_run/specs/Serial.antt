@@ -13,7 +13,7 @@ use Rattle.graph_model.specs.Transactions.{graph_after_txn, replies_to}
 use Rattle.graph_model.specs.Capacity.{full_rank}
 use Rattle.graph_model.specs.History.{load_entries}
 use Rattle.graph_model.specs.Placed.{Placed, transactions_of}
-use Rattle.graph_model.specs.LegalRun.{IsLegalRun}
+use Rattle.graph_model.specs.LegalRun.{IsLegalRun, graph_of_run}
 
 -- how a transaction ends: whether it aborts, whether it writes, the rank that has too few blocks for it, the entries
 -- before it, its replies
@@ -79,3 +79,16 @@ run_after shape load script =
 abbrev pub SerialRunsAreLegal : Type 0
 SerialRunsAreLegal = (shape : Shape) (load : List Txn) (script : List (List Txn)) → HaveRoom shape empty_graph (load_entries load)
     → IsLegalRun shape load script (run_after shape load script)
+
+-- the graph that it leaves
+abbrev pub graph_behind : Shape → List Txn → List (List Txn) → Graph
+graph_behind shape load script = serial_graph shape (graph_after_txns shape empty_graph (load_entries load)) (transactions_of script)
+
+-- the graph behind the last entry of the history that a run tells of
+abbrev pub last_graph : Shape → List Txn → List (List Txn) → Printed → Graph
+last_graph shape load script run = graph_of_run shape load script run run.writes
+
+-- the law: they are one
+abbrev pub SerialRunsLeaveTheirLastGraph : Type 0
+SerialRunsLeaveTheirLastGraph = (shape : Shape) (load : List Txn) (script : List (List Txn))
+    → graph_behind shape load script ≡ last_graph shape load script (run_after shape load script)

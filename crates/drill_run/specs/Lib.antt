@@ -1,0 +1,4 @@
+pub mod Summaries
+pub mod Arcs
+pub mod Drills
+pub mod Told
