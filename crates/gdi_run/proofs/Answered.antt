@@ -1,12 +1,12 @@
 -- What the top call answers, by what it did.
-use Rattle.std.proofs.Common.{◌≡◌, ℕ, List, [], ◌∷◌, Some, inl, inr, refl, sym, subst, ap, ◌∙◌}
+use Rattle.std.proofs.Common.{◌≡◌, ◌≤◌, ℕ, List, [], ◌∷◌, Some, inl, inr, refl, sym, subst, ap, ◌∙◌}
 use Rattle.gdi_kinds.specs.declared.named_bytes.NamedBytes.{NamedBytes}
 use Rattle.gdi_io.specs.Shelf.{Told}
 use Rattle.gdi_io.specs.Sink.{Taken}
 use Rattle.command_words.specs.Items.{Text}
 use Rattle.command_words.specs.Commands.{Asks, IsRefused}
 use Rattle.command_words.specs.declared.command.Command.{Command}
-use Rattle.command_words.specs.declared.command.Command.TheVariants.{Run, Check, Report, Drill}
+use Rattle.command_words.specs.declared.command.Command.TheVariants.{Report, Drill}
 use Rattle.command_words.specs.declared.command.CommandName.{CommandName}
 use Rattle.command_words.specs.declared.command.CommandName.TheVariants as named
 use Rattle.command_words.specs.declared.source.Source.{Source}
@@ -15,7 +15,7 @@ use Rattle.gdi_run.specs.declared.status.Status.{Status}
 use Rattle.gdi_run.specs.declared.status.Status.TheVariants.{Done, Usage, ReadFault, TooLong, BadLoad, BadScript, BadOutput, LoadFull, WriteFault, Illegal, NoMemory}
 use Rattle.gdi_run.specs.Commands.{FileNames, IsDone, Names, held_in, names_for}
 use Rattle.gdi_run.specs.Answer.{AreShort, Cause, Ends, EndsCommand, IsAnswer, MayBeDone, MayDo}
-use Rattle.gdi_run.proofs.OneCommand.{alike, not_refused, same_command}
+use Rattle.gdi_run.proofs.OneCommand.{alike, drill_in_range, not_refused, same_command}
 
 -- ---- the words name one command
 
@@ -31,23 +31,12 @@ same_others : (words : List Text) (name other : CommandName) (others these : Lis
 same_others [] name other others these one two = absurd one
 same_others (word ∷ words) name other others these one two = sym two.1 ∙ one.1
 
--- a command that isn't done so far isn't asked for
-abbrev IsUndone : Command → Type 0
-IsUndone (Report source) = Unit {0}
-IsUndone (Drill size seed) = Unit {0}
-IsUndone asked = ⊥
-
-never_asked : (name : CommandName) (words : List Text) (asked : Command) → IsDone name → IsUndone asked → Asks name words asked → ⊥
-never_asked named.Run words (Report source) done undone (items, form, is) = is
-never_asked named.Run words (Drill size seed) done undone (items, form, is) = is
-never_asked named.Check words (Report source) done undone (items, form, is) = is
-never_asked named.Check words (Drill size seed) done undone (items, form, is) = is
-never_asked named.Run words (Run source script) done undone asks = absurd undone
-never_asked named.Run words (Check source script output) done undone asks = absurd undone
-never_asked named.Check words (Run source script) done undone asks = absurd undone
-never_asked named.Check words (Check source script output) done undone asks = absurd undone
-never_asked named.Report words asked done undone asks = absurd done
-never_asked named.Drill words asked done undone asks = absurd done
+-- a report isn't asked for, since it isn't done so far
+no_report_asked : (name : CommandName) (words : List Text) (source : Source) → IsDone name → ¬ Asks name words (Report source)
+no_report_asked named.Run words source done asks = asks.2
+no_report_asked named.Check words source done asks = asks.2
+no_report_asked named.Drill words source done asks = asks.2
+no_report_asked named.Report words source done asks = absurd done
 
 module _ (all : List Text) (name : CommandName) (words : List Text) (names : Names all name words) where
   -- what the words ask for by any reading, they ask for by this one
@@ -79,7 +68,7 @@ module _ (all : List Text) (name : CommandName) (words : List Text) (names : Nam
     answers asked status asks ended = record {
       command = λ none. absurd (none name words names);
       cause = λ other others also. caused other others status also (cause_of asked status asks ended.ends);
-      too_long = inr ended.too_long;
+      too_long = ended.too_long;
       files = ended.files;
       complete = λ other others wanted files also wants told may quiet runs.
           let same = alike name words asked wanted (done_of all name words names) asks (asks_here other others wanted also wants) in
@@ -100,9 +89,9 @@ module _ (all : List Text) (name : CommandName) (words : List Text) (names : Nam
         absurd (not_refused name words wanted kind (done_of all name words names) (asks_here other others wanted also wants) why);
   }
 
-  -- these commands aren't done so far
-  pub no_report : (source : Source) → Asks name words (Report source) → ⊥
-  no_report source asks = never_asked name words (Report source) (done_of all name words names) tt asks
+  pub no_report : (source : Source) → ¬ Asks name words (Report source)
+  no_report source asks = no_report_asked name words source (done_of all name words names) asks
 
-  pub no_drill : (size seed : ℕ) → Asks name words (Drill size seed) → ⊥
-  no_drill size seed asks = never_asked name words (Drill size seed) (done_of all name words names) tt asks
+  -- a drill's size is in its range
+  pub drill_range : (size seed : ℕ) → Asks name words (Drill size seed) → (1 ≤ size) × (size ≤ 10000)
+  drill_range size seed asks = drill_in_range name words size seed (done_of all name words names) asks

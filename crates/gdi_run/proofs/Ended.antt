@@ -8,12 +8,16 @@ use Rattle.gdi_io.specs.Files.{bytes_of}
 use Rattle.gdi_io.specs.Shelf.{Told}
 use Rattle.gdi_io.specs.Sink.{Taken}
 use Rattle.gdi_io.specs.Whole.{WritesAll, longest_file}
+use Rattle.rma_layout.specs.Shape.{Shape}
 use Rattle.command_words.specs.Items.{Text}
 use Rattle.command_words.specs.declared.command.Command.{Command}
 use Rattle.command_words.specs.declared.command.Command.TheVariants.{Run, Check, Report, Drill}
 use Rattle.command_words.specs.declared.source.Source.{Source}
 use Rattle.plain_run.specs.Given.{Given}
-use Rattle.plain_run.specs.Running.{TellsWhy}
+use Rattle.plain_run.specs.Loading.{HasRoom, full_for}
+use Rattle.plain_run.specs.Running.{TellsFull, TellsWhy}
+use Rattle.bulk_load.specs.declared.load_file.LoadFile.TheVariants.{Vertices, Edges}
+use Rattle.plain_run.specs.declared.load.Load.{Load}
 use Rattle.plain_run.specs.declared.run_refused.RunRefused.{RunRefused}
 use Rattle.plain_run.specs.declared.run_refused.RunRefused.TheVariants as refused
 use Rattle.plain_run.proofs.RightTexts.{right_texts}
@@ -23,9 +27,11 @@ use Rattle.plain_check.specs.Refusals.{IsUnchecked}
 use Rattle.plain_check.specs.declared.check_refused.CheckRefused.{CheckRefused}
 use Rattle.plain_check.specs.declared.check_refused.CheckRefused.TheVariants as unchecked
 use Rattle.plain_check.proofs.Accepted.{right_outputs}
+use Rattle.gdi_run.specs.declared.status.FileKind.{FileKind}
 use Rattle.gdi_run.specs.declared.status.Status.{Status}
 use Rattle.gdi_run.specs.declared.status.Status.TheVariants.{Done, Usage, ReadFault, TooLong, BadLoad, BadScript, BadOutput, LoadFull, WriteFault, Illegal, NoMemory}
-use Rattle.gdi_run.specs.Commands.{Held, held_in, names_for, names_with, texts_in}
+use Rattle.drill_run.specs.Drills.{PrintsDrill, drill_shape, load_of}
+use Rattle.gdi_run.specs.Commands.{Held, held_in, names_for, names_with, no_names, texts_in}
 use Rattle.gdi_run.specs.Reading.{AreUnread, IsQuiet, ReadsFiles}
 use Rattle.gdi_run.specs.Statuses.{status_of, status_of_check, status_of_illegal}
 use Rattle.gdi_run.specs.Answer.{AreRead, Ends, EndsCommand, Fails, HasFailed, HasWritten, IsEnd, MayBeDone, MayDo, Writes}
@@ -79,14 +85,22 @@ module _ (old new : Told) (asked : Command) (sink : Taken) where
   pub ends_unread : {X : Type 0} (value : List NamedBytes → X) (status : Status) → ReadsFiles old new (names_for asked) value (Err status) → EndsCommand old new asked sink sink status
   ends_unread value status reads = record {
     ends = unread_ends status reads.err.0;
-    too_long = reads.err.1.too_long;
+    too_long = inr reads.err.1.too_long;
     files = reads.files;
     complete = λ files told may quiet runs. no_memory_ends asked status (short_read status files reads.err.0 told may quiet);
   }
 
 -- ---- files that are read
 
-module _ (old new : Told) (asked : Command) (held : Held) (sink sink' : Taken) (read : AreRead old asked held) (quiet : IsQuiet new) (same : new.files ≡ old.files) where
+-- nothing was read; or, where a byte past the longest file was, a file is too long
+abbrev IsShortOrTold : Told → Told → Status → Type 0
+IsShortOrTold old new status = (new ≡ old) ⊎ (longest_file < new.given → (kind : FileKind) × (status ≡ TooLong kind))
+
+pub short_read_all : (old new : Told) (status : Status) → IsQuiet new → IsShortOrTold old new status
+short_read_all old new status quiet = inr (λ over. absurd (omega (arith, over, quiet.short)))
+
+module _ (old new : Told) (asked : Command) (held : Held) (sink sink' : Taken) (read : AreRead old asked held)
+    (given : (status : Status) → IsShortOrTold old new status) (same : new.files ≡ old.files) where
   -- what a command may do with the files that the shelf tells, it may do with what was read
   held_may : (files : List NamedBytes) → old.files ≡ Some files → MayBeDone files asked → MayDo asked held
   held_may files told may =
@@ -96,7 +110,7 @@ module _ (old new : Told) (asked : Command) (held : Held) (sink sink' : Taken) (
   ended : (status : Status) → Ends old new asked sink sink' status → (MayDo asked held → ¬ (Rose sink.faults sink'.faults) → IsEnd asked status) → EndsCommand old new asked sink sink' status
   ended status ends complete = record {
     ends = ends;
-    too_long = λ over. absurd (omega (arith, over, quiet.short));
+    too_long = given status;
     files = same;
     complete = λ files told may still runs. complete (held_may files told may) runs;
   }
@@ -124,7 +138,7 @@ module _ (old new : Told) (source : Source) (script : _) (texts : Given) (sink :
   pub run_refused : (why : RunRefused) (status : Status) → TellsWhy source.geometry texts why → status ≡ status_of why → EndsCommand old new (Run source script) sink sink status
   run_refused why status tells is =
       subst (EndsCommand old new (Run source script) sink sink) (sym is)
-      (ended old new (Run source script) (record { texts = texts; output = [] }) sink sink (run_read old source script texts reads.ok.0) reads.ok.1 reads.files (status_of why) (why_not_run why tells)
+      (ended old new (Run source script) (record { texts = texts; output = [] }) sink sink (run_read old source script texts reads.ok.0) (λ status. short_read_all old new status reads.ok.1) reads.files (status_of why) (why_not_run why tells)
       (λ may runs. inr (ap status_of (right_texts source.geometry texts may.0 why may.1 may.2 tells))))
 
 module _ (old new : Told) (source : Source) (script output : _) (held : Held) (sink : Taken)
@@ -139,11 +153,44 @@ module _ (old new : Told) (source : Source) (script output : _) (held : Held) (s
   pub check_refused : (why : CheckRefused) (status : Status) → IsUnchecked source.geometry held.texts held.output why → status ≡ status_of_check why → EndsCommand old new (Check source script output) sink sink status
   check_refused why status tells is =
       subst (EndsCommand old new (Check source script output) sink sink) (sym is)
-      (ended old new (Check source script output) held sink sink reads.ok.0 reads.ok.1 reads.files (status_of_check why) (why_not_checked why tells)
+      (ended old new (Check source script output) held sink sink reads.ok.0 (λ status. short_read_all old new status reads.ok.1) reads.files (status_of_check why) (why_not_checked why tells)
       (λ may runs. inr (inl (ap status_of_check (right_outputs source.geometry held.texts held.output may.0.0 may.1.0 why may.0.1 may.0.2 may.1.1 tells)))))
 
   pub not_legal : (why : WhyIllegal) (status : Status) → PrintsIllegalRun source.geometry held.texts held.output why → status ≡ status_of_illegal why → EndsCommand old new (Check source script output) sink sink status
   not_legal why status prints is =
       subst (EndsCommand old new (Check source script output) sink sink) (sym is)
-      (ended old new (Check source script output) held sink sink reads.ok.0 reads.ok.1 reads.files (status_of_illegal why)
+      (ended old new (Check source script output) held sink sink reads.ok.0 (λ status. short_read_all old new status reads.ok.1) reads.files (status_of_illegal why)
       (record { held = held; read = reads.ok.0; fails = inr (why, prints, refl) }, refl) (λ may runs. inr (inr (why, refl))))
+
+-- ---- a drill, which reads nothing
+
+all_hold_nothing : (told : Option (List NamedBytes)) → IfSome told (λ files. held_in [] no_names ≡ held_in files no_names)
+all_hold_nothing None = tt
+all_hold_nothing (Some files) = refl
+
+room_refuses : (shape : Shape) (load : Load) (why : RunRefused) → HasRoom shape load → TellsFull shape load why → why ≡ refused.NoMemory
+room_refuses shape load (refused.BadLoad told row kind) room tells = absurd tells
+room_refuses shape load (refused.BadScript line kind) room tells = absurd tells
+room_refuses shape load (refused.LoadFull Vertices rank) room tells = let no : ◌≡◌ {A = Option ℕ} None (Some rank) = sym room.vertices ∙ tells in absurd (cc)
+room_refuses shape load (refused.LoadFull Edges rank) room tells = let no : ◌≡◌ {A = Option ℕ} None (Some rank) = sym room.edges ∙ tells.1 in absurd (cc)
+room_refuses shape load refused.NoMemory room tells = refl
+
+module _ (shelf : Told) (size seed : ℕ) (sink sink' : Taken) where
+  pub drill_written : {T E : Type 0} (x : T) (written : List ℕ) → PrintsDrill drill_shape size seed written → WritesAll {T} {E} sink sink' written (Ok x) → EndsCommand shelf shelf (Drill size seed) sink sink' Done
+  drill_written x written prints all = ends_written shelf shelf (Drill size seed) (held_in [] no_names) sink sink' (all_hold_nothing shelf.files) (λ status. inl refl) refl x written prints all
+
+  pub drill_cut : {T E : Type 0} (e : E) (written : List ℕ) → PrintsDrill drill_shape size seed written → WritesAll {T} {E} sink sink' written (Err e) → EndsCommand shelf shelf (Drill size seed) sink sink' WriteFault
+  drill_cut e written prints cut = ends_cut shelf shelf (Drill size seed) (held_in [] no_names) sink sink' (all_hold_nothing shelf.files) (λ status. inl refl) refl e written prints cut
+
+module _ (shelf : Told) (size seed : ℕ) (sink : Taken) where
+  why_not_drilled : (why : RunRefused) → TellsFull drill_shape (load_of size seed) why → Ends shelf shelf (Drill size seed) sink sink (status_of why)
+  why_not_drilled (refused.BadLoad told row kind) tells = absurd tells
+  why_not_drilled (refused.BadScript line kind) tells = absurd tells
+  why_not_drilled (refused.LoadFull told rank) tells = (record { held = held_in [] no_names; read = all_hold_nothing shelf.files; fails = (refused.LoadFull told rank, tells, refl) }, refl)
+  why_not_drilled refused.NoMemory tells = refl
+
+  pub drill_refused : (why : RunRefused) (status : Status) → TellsFull drill_shape (load_of size seed) why → status ≡ status_of why → EndsCommand shelf shelf (Drill size seed) sink sink status
+  drill_refused why status tells is =
+      subst (EndsCommand shelf shelf (Drill size seed) sink sink) (sym is)
+      (ended shelf shelf (Drill size seed) (held_in [] no_names) sink sink (all_hold_nothing shelf.files) (λ status. inl refl) refl (status_of why) (why_not_drilled why tells)
+      (λ may runs. inr (ap status_of (room_refuses drill_shape (load_of size seed) why may tells))))

@@ -1,12 +1,14 @@
 -- Words ask for one command, and aren't refused then.
-use Rattle.std.proofs.Common.{◌≡◌, ℕ, List, [], ◌∷◌, codes, Option, Some, None, refl, sym, ap, subst, ◌∙◌}
+use Rattle.std.proofs.Common.{◌≡◌, ◌≤◌, ℕ, List, [], ◌∷◌, map, codes, Option, Some, None, refl, sym, ap, subst, ◌∙◌}
 use Rattle.std.specs.Option.{option_map, option_to_list}
+use Rattle.std.proofs.lemmas.Bool.{false≢true}
 use Rattle.std.proofs.lemmas.Fmt.{decimal_injective}
 use Rattle.rma_layout.specs.Shape.{Shape, standard_shape}
 use Rattle.rma_layout.specs.Ranges.{refusal_of}
 use Rattle.rma_layout.specs.declared.geometry.BadGeometry.{BadGeometry}
 use Rattle.command_words.specs.Items.{Text, Item, Spells, values_of, names_of}
-use Rattle.command_words.specs.Commands.{AreChosen, Asks, HasNumbers, HasSource, IsAsked, IsChosen, IsRefused, command_text, load_options}
+use Rattle.command_words.specs.Items as spell
+use Rattle.command_words.specs.Commands.{AreChosen, AreDrill, Asks, HasNumbers, HasSource, IsAsked, IsChosen, IsRefused, command_text, load_options}
 use Rattle.command_words.specs.declared.command.Command.{Command}
 use Rattle.command_words.specs.declared.command.Command.TheVariants.{Run, Check, Report, Drill}
 use Rattle.command_words.specs.declared.command.CommandName.{CommandName}
@@ -15,7 +17,9 @@ use Rattle.command_words.specs.declared.source.Source.{Source}
 use Rattle.command_words.specs.declared.usage.UsageKind.{UsageKind}
 use Rattle.command_words.specs.declared.usage.UsageKind.TheVariants as usage
 use Rattle.command_words.proofs.Meanings.{same_items}
-use Rattle.command_words.proofs.Refusals.{load_are}
+use Rattle.command_words.proofs.Refusals.{load_are, none_are}
+use Rattle.plain_run.specs.Loading.{HasRoom}
+use Rattle.drill_run.specs.Drills.{drill_shape, load_of}
 use Rattle.gdi_run.specs.declared.status.Status.{Status}
 use Rattle.gdi_run.specs.Commands.{FileNames, Held, IsDone, names_for, names_with}
 use Rattle.gdi_run.specs.Answer.{AreRight, IsEnd, MayDo}
@@ -83,6 +87,26 @@ same_names one other script text output checked same scripts outputs =
 
 -- ---- what words ask for, twice
 
+-- the words of a drill give one size and one seed
+one_drill : (names : List Text) (size seed more next : ℕ) → AreDrill names size seed → AreDrill names more next → (size ≡ more) × (seed ≡ next)
+one_drill [] size seed more next one other = absurd one
+one_drill (first ∷ []) size seed more next one other = absurd one
+one_drill (first ∷ second ∷ []) size seed more next one other =
+    (decimal_injective size more one.0.1 other.0.1 (sym one.0.0 ∙ other.0.0), decimal_injective seed next one.1.1 other.1.1 (sym one.1.0 ∙ other.1.0))
+one_drill (first ∷ second ∷ third ∷ rest) size seed more next one other = absurd one
+
+in_range : (names : List Text) (size seed : ℕ) → AreDrill names size seed → (1 ≤ size) × (size ≤ 10000)
+in_range [] size seed are = absurd are
+in_range (first ∷ []) size seed are = absurd are
+in_range (first ∷ second ∷ []) size seed are = (are.2, are.3)
+in_range (first ∷ second ∷ third ∷ rest) size seed are = absurd are
+
+pub drill_in_range : (name : CommandName) (words : List Text) (size seed : ℕ) → IsDone name → Asks name words (Drill size seed) → (1 ≤ size) × (size ≤ 10000)
+drill_in_range named.Run words size seed done asks = absurd asks.2
+drill_in_range named.Check words size seed done asks = absurd asks.2
+drill_in_range named.Drill words size seed done asks = in_range (names_of asks.0) size seed asks.2
+drill_in_range named.Report words size seed done asks = absurd done
+
 -- two commands that read the same files, need the same and end alike
 pub record AreAlike (one other : Command) : Type 0 where
   pub names : names_for other ≡ names_for one
@@ -122,12 +146,31 @@ alike named.Check words (Drill size seed) other done (items, form, is) asks = ab
 alike named.Check words (Check source script output) (Run other text) done asked (items, form, is) = absurd is
 alike named.Check words (Check source script output) (Report other) done asked (items, form, is) = absurd is
 alike named.Check words (Check source script output) (Drill size seed) done asked (items, form, is) = absurd is
+alike named.Drill words (Drill size seed) (Drill more next) done (items, form, is) (others, others_form, others_is) =
+    let items_same : others ≡ items = same_items [] none_are.are_names others_form.spelled form.spelled in
+    let same = one_drill (names_of items) size seed more next is (subst (λ xs. AreDrill (names_of xs) more next) items_same others_is) in
+    record {
+      names = refl;
+      may = λ held may. subst (λ n. HasRoom drill_shape (load_of n seed)) (sym same.0) (subst (λ s. HasRoom drill_shape (load_of more s)) (sym same.1) may);
+      ends = λ status end. end;
+    }
+alike named.Drill words (Run source script) other done (items, form, is) asks = absurd is
+alike named.Drill words (Check source script output) other done (items, form, is) asks = absurd is
+alike named.Drill words (Report source) other done (items, form, is) asks = absurd is
+alike named.Drill words (Drill size seed) (Run other text) done asked (items, form, is) = absurd is
+alike named.Drill words (Drill size seed) (Check other text checked) done asked (items, form, is) = absurd is
+alike named.Drill words (Drill size seed) (Report other) done asked (items, form, is) = absurd is
 alike named.Report words one other done asked asks = absurd done
-alike named.Drill words one other done asked asks = absurd done
 
 -- ---- what words ask for isn't refused
 
-has_source : (name : CommandName) (items : List Item) (asked : Command) → IsDone name → IsAsked name items asked → (source : Source) × HasSource items source
+-- a command that loads
+abbrev IsLoading : CommandName → Type 0
+IsLoading named.Run = Unit {0}
+IsLoading named.Check = Unit {0}
+IsLoading name = ⊥
+
+has_source : (name : CommandName) (items : List Item) (asked : Command) → IsLoading name → IsAsked name items asked → (source : Source) × HasSource items source
 has_source named.Run items (Run source script) done is = (source, is.0)
 has_source named.Check items (Check source script output) done is = (source, is.0)
 has_source named.Run items (Check source script output) done is = absurd is
@@ -136,8 +179,8 @@ has_source named.Run items (Drill size seed) done is = absurd is
 has_source named.Check items (Run source script) done is = absurd is
 has_source named.Check items (Report source) done is = absurd is
 has_source named.Check items (Drill size seed) done is = absurd is
-has_source named.Report items asked done is = absurd done
-has_source named.Drill items asked done is = absurd done
+has_source named.Report items asked loading is = absurd loading
+has_source named.Drill items asked loading is = absurd loading
 
 -- its numbers make a geometry
 module _ (items others : List Item) (words : List Text) (spelled : Spells load_options words items) (also : Spells load_options words others) (source : Source) (has : HasSource items source) where
@@ -150,25 +193,57 @@ module _ (items others : List Item) (words : List Text) (spelled : Spells load_o
       let no : None ≡ Some bad = sym has.fits ∙ ap refusal_of same ∙ unfit in
       absurd cc
 
+named_alone : (option : Text) (words : List Text) → values_of option (map spell.Named words) ≡ []
+named_alone option [] = refl
+named_alone option (word ∷ words) = named_alone option words
+
+-- words without options give the standard geometry, which is right
+no_values : {words : List Text} {items : List Item} (option : Text) → Spells [] words items → values_of option items ≡ []
+no_values option spell.none = refl
+no_values option (spell.name plain spelled) = no_values option spelled
+no_values option (spell.apart there plain spelled) = absurd (false≢true there)
+no_values option (spell.joined there spelled) = absurd (false≢true there)
+no_values option (spell.rest {words}) = named_alone option words
+
+no_geometry : (words : List Text) (items : List Item) → Spells [] words items → (bad : BadGeometry) (shape : Shape) → HasNumbers items shape → refusal_of shape ≡ Some bad → ⊥
+no_geometry words items spelled bad shape have unfit =
+    let none_of : (option : Text) → values_of option items ≡ [] = λ option. no_values option spelled in
+    let usual : AreChosen [] [] [] [] [] standard_shape = record { of_ranks = refl; of_blocks = refl; of_words = refl; of_buckets = refl; of_slots = refl } in
+    let chosen : AreChosen [] [] [] [] [] shape = record {
+      of_ranks = subst (λ ts. IsChosen ts standard_shape.ranks shape.ranks) (none_of (codes "ranks")) have.of_ranks;
+      of_blocks = subst (λ ts. IsChosen ts standard_shape.blocks shape.blocks) (none_of (codes "blocks")) have.of_blocks;
+      of_words = subst (λ ts. IsChosen ts standard_shape.words shape.words) (none_of (codes "words")) have.of_words;
+      of_buckets = subst (λ ts. IsChosen ts standard_shape.buckets shape.buckets) (none_of (codes "buckets")) have.of_buckets;
+      of_slots = subst (λ ts. IsChosen ts standard_shape.slots shape.slots) (none_of (codes "slots")) have.of_slots;
+    } in
+    let same : standard_shape ≡ shape = same_shape [] [] [] [] [] standard_shape shape usual chosen in
+    let fits : refusal_of standard_shape ≡ None = refl in
+    let no : None ≡ Some bad = sym fits ∙ ap refusal_of same ∙ unfit in
+    absurd cc
+
 pub not_refused : (name : CommandName) (words : List Text) (asked : Command) (kind : UsageKind) → IsDone name → Asks name words asked → IsRefused name words kind → ⊥
 not_refused name words asked usage.Command done asks why = why
 not_refused name words asked usage.Words done (items, form, is) why = why items form
 not_refused named.Run words asked usage.Number done (items, form, is) (others, others_form, bad) =
-    let has = has_source named.Run items asked done is in
+    let has = has_source named.Run items asked tt is in
     bad has.0.geometry (numbers items others words form.spelled others_form.spelled has.0 has.1)
 not_refused named.Check words asked usage.Number done (items, form, is) (others, others_form, bad) =
-    let has = has_source named.Check items asked done is in
+    let has = has_source named.Check items asked tt is in
     bad has.0.geometry (numbers items others words form.spelled others_form.spelled has.0 has.1)
 not_refused named.Run words asked (usage.Geometry bad) done (items, form, is) (others, others_form, (shape, have, unfit)) =
-    let has = has_source named.Run items asked done is in
+    let has = has_source named.Run items asked tt is in
     no_other items others words form.spelled others_form.spelled has.0 has.1 bad shape have unfit
 not_refused named.Check words asked (usage.Geometry bad) done (items, form, is) (others, others_form, (shape, have, unfit)) =
-    let has = has_source named.Check items asked done is in
+    let has = has_source named.Check items asked tt is in
     no_other items others words form.spelled others_form.spelled has.0 has.1 bad shape have unfit
 not_refused named.Report words asked usage.Number done asks why = absurd done
 not_refused named.Report words asked (usage.Geometry bad) done asks why = absurd done
-not_refused named.Drill words asked usage.Number done asks why = absurd done
-not_refused named.Drill words asked (usage.Geometry bad) done asks why = absurd done
+not_refused named.Drill words (Drill size seed) usage.Number done (items, form, is) (others, others_form, bad) =
+    bad size seed (subst (λ xs. AreDrill (names_of xs) size seed) (same_items [] none_are.are_names form.spelled others_form.spelled) is)
+not_refused named.Drill words (Run source script) usage.Number done (items, form, is) why = absurd is
+not_refused named.Drill words (Check source script output) usage.Number done (items, form, is) why = absurd is
+not_refused named.Drill words (Report source) usage.Number done (items, form, is) why = absurd is
+not_refused named.Drill words asked (usage.Geometry bad) done asks (others, others_form, (shape, have, unfit)) = no_geometry words others others_form.spelled bad shape have unfit
 
 -- ---- the words of a command are of one
 

@@ -12,18 +12,19 @@ use Rattle.outcome_text.specs.Runs.{IsOutput}
 use Rattle.command_words.specs.Items.{Text}
 use Rattle.command_words.specs.Commands.{Asks, IsRefused}
 use Rattle.command_words.specs.declared.command.Command.{Command}
-use Rattle.command_words.specs.declared.command.Command.TheVariants.{Run, Check}
+use Rattle.command_words.specs.declared.command.Command.TheVariants.{Run, Check, Drill}
 use Rattle.command_words.specs.declared.command.CommandName.{CommandName}
 use Rattle.command_words.specs.declared.usage.UsageKind.TheVariants as usage
 use Rattle.plain_run.specs.Given.{Given}
 use Rattle.plain_run.specs.Loading.{HasRoom}
-use Rattle.plain_run.specs.Running.{AreTexts, PrintsLegalRun, TellsWhy}
+use Rattle.plain_run.specs.Running.{AreTexts, PrintsLegalRun, TellsFull, TellsWhy}
 use Rattle.plain_run.specs.declared.run_refused.RunRefused.{RunRefused}
 use Rattle.plain_run.specs.declared.workload.Workload.{Workload}
 use Rattle.run_check.specs.declared.illegal.Illegal.{Illegal as WhyIllegal}
 use Rattle.plain_check.specs.Checking.{PrintsIllegalRun}
 use Rattle.plain_check.specs.Refusals.{IsUnchecked}
 use Rattle.plain_check.specs.declared.check_refused.CheckRefused.{CheckRefused}
+use Rattle.drill_run.specs.Drills.{PrintsDrill, drill_shape, load_of}
 use Rattle.gdi_run.specs.declared.status.FileKind.{FileKind}
 use Rattle.gdi_run.specs.declared.status.Status.{Status}
 use Rattle.gdi_run.specs.declared.status.Status.TheVariants.{Done, Usage, ReadFault, TooLong, WriteFault, NoMemory}
@@ -34,18 +35,22 @@ use Rattle.gdi_run.specs.Statuses.{status_of, status_of_check, status_of_illegal
 abbrev pub legal_line : List ℕ
 legal_line = codes "legal" ++ 10 ∷ []
 
--- what a command writes that is done: what a legal run of the script prints; or that the output is such
+-- what a command writes that is done: what a legal run of the script prints; that the output is such; or what there is to tell of
+-- a drill
 abbrev pub Writes : Command → Held → List ℕ → Type 0
 Writes (Run source script) held written = PrintsLegalRun source.geometry held.texts written
 Writes (Check source script output) held written = PrintsLegalRun source.geometry held.texts held.output × (written ≡ legal_line)
+Writes (Drill size seed) held written = PrintsDrill drill_shape size seed written
 Writes other held written = ⊥
 
--- why a command isn't done whose files are read: the texts aren't run; the output isn't checked, or it isn't legal
+-- why a command isn't done whose files are read: the texts aren't run; the output isn't checked, or it isn't legal; the drill's load
+-- isn't taken
 abbrev pub Fails : Command → Held → Status → Type 0
 Fails (Run source script) held status = (why : RunRefused) × TellsWhy source.geometry held.texts why × (status ≡ status_of why)
 Fails (Check source script output) held status =
     ((why : CheckRefused) × IsUnchecked source.geometry held.texts held.output why × (status ≡ status_of_check why))
     ⊎ ((why : WhyIllegal) × PrintsIllegalRun source.geometry held.texts held.output why × (status ≡ status_of_illegal why))
+Fails (Drill size seed) held status = (why : RunRefused) × TellsFull drill_shape (load_of size seed) why × (status ≡ status_of why)
 Fails other held status = ⊥
 
 -- this is what a command's files hold, where the shelf tells them
@@ -84,10 +89,11 @@ AreShort files names = (kind : FileKind) (name : Text) → name_of names kind �
 abbrev pub AreRight : Shape → Given → Type 0
 AreRight shape texts = (workload : Workload) × AreTexts shape texts workload × HasRoom shape workload.load
 
--- what a command needs to be done: right texts, and for a check an output that spells a run
+-- what a command needs to be done: right texts, and for a check an output that spells a run; for a drill room for its load
 abbrev pub MayDo : Command → Held → Type 0
 MayDo (Run source script) held = AreRight source.geometry held.texts
 MayDo (Check source script output) held = AreRight source.geometry held.texts × ((run : Printed) × IsOutput held.output run)
+MayDo (Drill size seed) held = HasRoom drill_shape (load_of size seed)
 MayDo other held = ⊥
 
 -- and that its files are short
@@ -102,7 +108,7 @@ IsEnd asked status = (status ≡ Done) ⊎ (status ≡ NoMemory)
 -- doing a command
 pub record EndsCommand (shelf shelf' : Told) (asked : Command) (sink sink' : Taken) (status : Status) : Type 0 where
   pub ends : Ends shelf shelf' asked sink sink' status
-  pub too_long : longest_file < shelf'.given → (kind : FileKind) × (status ≡ TooLong kind)
+  pub too_long : (shelf' ≡ shelf) ⊎ (longest_file < shelf'.given → (kind : FileKind) × (status ≡ TooLong kind))
   pub files : shelf'.files ≡ shelf.files
   pub complete : (files : List NamedBytes) → shelf.files ≡ Some files → MayBeDone files asked → shelf'.halted ≡ false → ¬ (Rose sink.faults sink'.faults) → IsEnd asked status
 

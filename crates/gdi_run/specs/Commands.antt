@@ -18,6 +18,7 @@ use Rattle.gdi_run.specs.declared.status.FileKind.TheVariants as file
 abbrev pub IsDone : CommandName → Type 0
 IsDone named.Run = Unit {0}
 IsDone named.Check = Unit {0}
+IsDone named.Drill = Unit {0}
 IsDone command = ⊥
 
 -- the first word names a command, and these are the others

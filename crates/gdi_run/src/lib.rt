@@ -2,6 +2,7 @@
 #![tactic(auto)]
 
 mod check;
+mod drilling;
 mod reading;
 mod refusals;
 mod run;

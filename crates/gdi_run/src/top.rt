@@ -2,6 +2,7 @@ ghost use Rattle.gdi_run.specs.Answer.{IsAnswer};
 
 use crate::Status;
 use crate::check::check_files;
+use crate::drilling::tell_drill;
 use crate::run::run_files;
 use crate::words::{command_in, texts_of};
 use command_words::{Command, UsageKind, WordsRefused, read_words};
@@ -37,7 +38,7 @@ pub fn gdi_main<F: Shelf, K: Sink>(
             },
         ) => check_files(alloc, &source, script, output, shelf, out),
         Ok(Command::Report { .. }) => Status::Usage(UsageKind::Command),
-        Ok(Command::Drill { .. }) => Status::Usage(UsageKind::Command),
+        Ok(Command::Drill { size, seed }) => tell_drill(alloc, size, seed, out),
         Err(WordsRefused::Usage(kind)) => Status::Usage(kind),
         Err(WordsRefused::NoMemory) => Status::NoMemory,
     }

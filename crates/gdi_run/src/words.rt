@@ -13,7 +13,7 @@ pub(crate) fn command_in(words: &[CommandWord]) -> Option<(CommandName, &[Comman
 {
     match words {
         [word, others @ ..] => match CommandName::of(word.text()) {
-            None | Some(CommandName::Report | CommandName::Drill) => None,
+            None | Some(CommandName::Report) => None,
             Some(name) => Some((name, others)),
         },
         _ => None,
