@@ -5,3 +5,4 @@ pub mod RunLemmas
 pub mod OutputLaw
 pub mod ItemLemmas
 pub mod OldLaw
+pub mod ToldLemmas
