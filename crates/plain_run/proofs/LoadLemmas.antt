@@ -1,8 +1,7 @@
 -- A load of two files as a list of transactions, and the run of a script behind it.
-use Rattle.std.proofs.Common.{◌≡◌, ℕ, suc, ◌+◌, ◌≤◌, Bool, true, false, not, cond, IsTrue, List, [], ◌∷◌, ◌++◌, length, Option, Some, None, refl, sym, ap, subst, ◌∙◌, arith, length-append}
+use Rattle.std.proofs.Common.{◌≡◌, ◌+◌, ◌≤◌, Bool, true, false, not, cond, IsTrue, List, [], ◌∷◌, ◌++◌, length, Option, Some, None, refl, sym, ap, subst, ◌∙◌, arith}
 use Rattle.std.specs.Option.{option_to_list}
 use Rattle.gdi_kinds.specs.declared.txn.Txn.{Txn}
-use Rattle.gdi_kinds.specs.declared.outcome.Printed.{Printed}
 use Rattle.gdi_kinds.specs.Calls.{is_writing}
 use Rattle.rma_layout.specs.Shape.{Shape}
 use Rattle.graph_model.specs.Graph.{Graph, empty_graph}

@@ -10,11 +10,10 @@ use Rattle.bulk_load.specs.declared.load_file.LoadFile.{LoadFile}
 use Rattle.bulk_load.specs.declared.load_file.LoadFile.TheVariants.{Vertices, Edges}
 use Rattle.bulk_load.proofs.AloneLemmas.{one_transaction, not_wrong}
 use Rattle.plain_run.specs.declared.load.Load.{Load}
-use Rattle.plain_run.specs.declared.run_refused.RunRefused.{RunRefused}
 use Rattle.plain_run.specs.declared.run_refused.RunRefused.TheVariants.{BadLoad, BadScript, LoadFull, NoMemory}
 use Rattle.plain_run.specs.declared.workload.Workload.{Workload}
 use Rattle.plain_run.specs.Given.{Given}
-use Rattle.plain_run.specs.Loading.{behind, behind_vertices, empty_plain, full_for, HasRoom, IsFullAt, IsLoad, IsWrongFile, LoadsFile}
+use Rattle.plain_run.specs.Loading.{behind, behind_vertices, empty_plain, full_for, IsFullAt, IsLoad, IsWrongFile, LoadsFile}
 use Rattle.plain_run.specs.Running.{AreTexts, RightTextsAreNotRefused}
 
 file_same : (of : LoadFile) (text : Option (List ℕ)) (before : Plain) (a b : Option Txn) → LoadsFile of text before a → LoadsFile of text before b → a ≡ b

@@ -1,6 +1,7 @@
 -- The text of a reply tells all of it: no graph answers an item of an undirected edge as inward.
-use Rattle.std.proofs.Common.{◌≡◌, ℕ, Bool, true, false, not, List, [], ◌∷◌, ◌++◌, map, Option, Some, None, Ok, Err, cond, refl, sym, subst}
-use Rattle.std.specs.List.{AllByRecursion, filter, zip}
+use Rattle.std.proofs.Common.{◌≡◌, ℕ, ◌+◌, Bool, true, false, not, List, [], ◌∷◌, ◌++◌, Option, Some, None, Ok, Err, cond, refl, sym, subst}
+use Rattle.std.specs.Prelude.{◌==◌, ◌||◌, is_some, is_none}
+use Rattle.std.specs.List.{AllByRecursion, filter, list_any, zip}
 use Rattle.text_words.proofs.PrintLemmas.{all_append}
 use Rattle.gdi_kinds.specs.declared.call.Call.{Call}
 use Rattle.gdi_kinds.specs.declared.call.Call.TheVariants as call
@@ -17,16 +18,19 @@ use Rattle.gdi_kinds.specs.declared.reply.Reply.TheVariants as reply
 use Rattle.gdi_kinds.specs.declared.txn.Txn.{Txn}
 use Rattle.gdi_kinds.specs.declared.value.Value.{Value}
 use Rattle.rma_layout.specs.Shape.{Shape}
-use Rattle.graph_model.specs.Maps.{Map}
-use Rattle.graph_model.specs.Graph.{Graph, Edge, EdgeKey, Name, edge_at, is_vertex, vertex_at}
-use Rattle.graph_model.specs.Lookups.{label_number, type_number, lines_at, line_at_source, line_at_target, out_lines, in_lines}
+use Rattle.gdi_kinds.specs.Constraint.{kind_of, same_kind}
+use Rattle.rma_layout.specs.Placement.{bucket_of, slot_of}
+use Rattle.graph_model.specs.Maps.{Map, at, add, has, is_there, with_at}
+use Rattle.graph_model.specs.Sizes.{is_too_large, words_of_bucket, words_of_names, words_of_slot, words_of_vertex}
+use Rattle.graph_model.specs.Graph.{Graph, Edge, EdgeKey, Name, Vertex, directed, edge_at, edges_from, edges_to, is_vertex, new_vertex, undirected, vertex_at}
+use Rattle.graph_model.specs.Lookups.{is_marked, kind_at, label_number, type_number, values_at, lines_at, line_at_source, line_at_target, out_lines, in_lines}
 use Rattle.graph_model.specs.Steps.{◌>>=◌, Step, Answer, answer_of, found_or, refused_if}
-use Rattle.graph_model.specs.EdgeCalls.{edge_or_refusal, label_if_named, make_edge}
-use Rattle.graph_model.specs.ListCalls.{atoms_of, kinds_agree, names_known}
-use Rattle.graph_model.specs.VertexCalls.{reply_of_values}
-use Rattle.graph_model.specs.Calls.{steps_of, graph_after_call, reply_to}
-use Rattle.graph_model.specs.Transactions.{replies_to, replies_to_calls}
-use Rattle.graph_model.specs.Placed.{Placed, pairs_of, transactions_of}
+use Rattle.graph_model.specs.EdgeCalls.{edge_or_refusal, is_edge_too_large, is_vertex_too_large, label_if_named, make_edge, ordinals_end, with_edge}
+use Rattle.graph_model.specs.ListCalls.{atoms_of, is_of_wrong_kind, kinds_agree, names_known, passes_test}
+use Rattle.graph_model.specs.VertexCalls.{reply_of_values, with_vertex}
+use Rattle.graph_model.specs.Calls.{steps_of, graph_after_call}
+use Rattle.graph_model.specs.Transactions.{replies_to_calls}
+use Rattle.graph_model.specs.Placed.{Placed, transactions_of}
 use Rattle.graph_model.specs.LegalRun.{FitsScript, HasReplies, IsLegalRun, graph_of_run}
 use Rattle.outcome_text.specs.Told.{EndIsTold, ReplyIsTold, OutcomeIsTold, RunIsTold}
 
@@ -50,11 +54,14 @@ ins : (edges : Map EdgeKey Edge) → AllByRecursion EndIsTold (in_lines edges)
 ins [] = tt
 ins (entry ∷ edges) = (at_target entry, ins edges)
 
+both : (from to : Map EdgeKey Edge) → AllByRecursion EndIsTold (out_lines from ++ in_lines to)
+both from to = all_append EndIsTold (out_lines from) (in_lines to) (outs from) (ins to)
+
 all_lines : (g : Graph) (passes : EdgeKey × Edge → Bool) (id : ℕ) (dir : Dir) → AllByRecursion EndIsTold (lines_at g passes id dir)
-all_lines g passes id Outward = outs _
-all_lines g passes id Inward = ins _
-all_lines g passes id Undirected = all_append EndIsTold _ _ (outs _) (ins _)
-all_lines g passes id Either = all_append EndIsTold _ _ (outs _) (ins _)
+all_lines g passes id Outward = outs (filter passes (directed (edges_from g id)))
+all_lines g passes id Inward = ins (filter passes (directed (edges_to g id)))
+all_lines g passes id Undirected = both (filter passes (undirected (edges_from g id))) (filter passes (undirected (edges_to g id)))
+all_lines g passes id Either = both (filter passes (edges_from g id)) (filter passes (edges_to g id))
 
 -- ---- the calls
 
@@ -100,24 +107,27 @@ one_name false refusal rest told others = others
 
 known : (g : Graph) (atoms : List Atom) → RefusesTold (names_known g atoms)
 known g [] = tt
-known g (Has name ∷ atoms) = one_name _ reply.NoLabel (names_known g atoms) tt (known g atoms)
-known g (Lacks name ∷ atoms) = one_name _ reply.NoLabel (names_known g atoms) tt (known g atoms)
-known g (Prop name op value ∷ atoms) = one_name _ reply.NoType (names_known g atoms) tt (known g atoms)
+known g (Has name ∷ atoms) = one_name (is_none (label_number g name)) reply.NoLabel (names_known g atoms) tt (known g atoms)
+known g (Lacks name ∷ atoms) = one_name (is_none (label_number g name)) reply.NoLabel (names_known g atoms) tt (known g atoms)
+known g (Prop name op value ∷ atoms) = one_name (is_none (type_number g name)) reply.NoType (names_known g atoms) tt (known g atoms)
 
 kinds : (g : Graph) (atoms : List Atom) → RefusesTold (kinds_agree g atoms)
-kinds g atoms = tests _ reply.WrongKind tt
+kinds g atoms = tests (list_any (is_of_wrong_kind g) atoms) reply.WrongKind tt
 
 values_told : (marked : Bool) (values : List Value) → ReplyIsTold (reply_of_values marked values)
 values_told true values = tt
 values_told false [] = tt
 values_told false (value ∷ values) = tt
 
+-- a call that makes an edge
 makes : (undirected : Bool) (g : Graph) (source target : ℕ) (name : Option Name) → Tells (make_edge undirected g source target name)
 makes undirected g source target name =
     after (label_if_named g name) _ (label g name) (λ labels.
     found (reply.NoVertex source) (vertex_at g source) _ tt (λ vertex.
-    test _ (reply.NoVertex target) _ tt (
-    test _ reply.TooLarge _ tt (at_end tt))))
+    let raised = with_vertex g source (record vertex { next = vertex.next + 1 }) in
+    let changed = with_edge raised source vertex.next (record { target = target; undirected = undirected; labels = labels; props = [] }) in
+    test (not (is_vertex g target)) (reply.NoVertex target) _ tt (
+    test (vertex.next == ordinals_end || is_vertex_too_large changed source || is_vertex_too_large changed target) reply.TooLarge _ tt (at_end tt))))
 
 abbrev has_type : (g : Graph) (name : Name) (next : ℕ → Step Answer) → ((type : ℕ) → Tells (next type)) → Tells (found_or reply.NoType (type_number g name) >>= next)
 has_type g name next each = found reply.NoType (type_number g name) next tt each
@@ -125,45 +135,76 @@ has_type g name next each = found reply.NoType (type_number g name) next tt each
 abbrev has_label : (g : Graph) (name : Name) (next : ℕ → Step Answer) → ((l : ℕ) → Tells (next l)) → Tells (found_or reply.NoLabel (label_number g name) >>= next)
 has_label g name next each = found reply.NoLabel (label_number g name) next tt each
 
+-- a call on a vertex that is there, and on an edge that is
+abbrev has_vertex : (g : Graph) (id : ℕ) (next : Vertex → Step Answer) → ((v : Vertex) → Tells (next v)) → Tells (found_or (reply.NoVertex id) (vertex_at g id) >>= next)
+has_vertex g id next each = found (reply.NoVertex id) (vertex_at g id) next tt each
+
+abbrev has_edge : (g : Graph) (source ordinal : ℕ) (next : Edge → Step Answer) → ((e : Edge) → Tells (next e)) → Tells (edge_or_refusal g source ordinal >>= next)
+has_edge g source ordinal next each = after (edge_or_refusal g source ordinal) next (edge g source ordinal) each
+
+abbrev large : (words : ℕ) (answer : Answer) → ReplyIsTold answer.reply → Tells (refused_if (is_too_large words) reply.TooLarge >>= λ _. Ok answer)
+large words answer told = test (is_too_large words) reply.TooLarge (λ _. Ok answer) tt (at_end told)
+
 of_steps : (shape : Shape) (g : Graph) (c : Call) → Tells (steps_of shape g c)
-of_steps shape g (call.NewLabel name) = test _ reply.Exists _ tt (test _ reply.TooLarge _ tt (at_end tt))
-of_steps shape g (call.NewType name kind many) = test _ reply.Exists _ tt (test _ reply.TooLarge _ tt (at_end tt))
-of_steps shape g (call.Vertex id) = test _ reply.Exists _ tt (test _ reply.TooLarge _ tt (at_end tt))
+of_steps shape g (call.NewLabel name) =
+    test (is_some (label_number g name)) reply.Exists _ tt (large (words_of_names (record g { labels = g.labels ++ name ∷ [] })) _ tt)
+of_steps shape g (call.NewType name kind many) =
+    test (is_some (type_number g name)) reply.Exists _ tt (large (words_of_names (record g { types = g.types ++ (record { name = name; kind = kind; many = many }) ∷ [] })) _ tt)
+of_steps shape g (call.Vertex id) = test (is_vertex g id) reply.Exists _ tt (large (words_of_bucket shape (with_vertex g id new_vertex) (bucket_of shape id)) _ tt)
 of_steps shape g (call.Has id) = at_end (elim (is_vertex g id) as (λ there. ReplyIsTold (cond there reply.Yes reply.No)) [ true ↦ tt | false ↦ tt ])
-of_steps shape g (call.DropVertex id) = test _ (reply.NoVertex id) _ tt (at_end tt)
-of_steps shape g (call.Tag id name) = has_label g name _ (λ l. found (reply.NoVertex id) (vertex_at g id) _ tt (λ v. test _ reply.HasLabel _ tt (test _ reply.TooLarge _ tt (at_end tt))))
-of_steps shape g (call.Untag id name) = has_label g name _ (λ l. found (reply.NoVertex id) (vertex_at g id) _ tt (λ v. test _ reply.LacksLabel _ tt (at_end tt)))
-of_steps shape g (call.Tags id) = found (reply.NoVertex id) (vertex_at g id) _ tt (λ v. at_end tt)
-of_steps shape g (call.Set id prop value) = has_type g prop _ (λ t. found (reply.NoVertex id) (vertex_at g id) _ tt (λ v. test _ reply.WrongKind _ tt (test _ reply.TooLarge _ tt (at_end tt))))
+of_steps shape g (call.DropVertex id) = test (not (is_vertex g id)) (reply.NoVertex id) _ tt (at_end tt)
+of_steps shape g (call.Tag id name) =
+    has_label g name _ (λ l. has_vertex g id _ (λ v.
+    let tagged : Vertex = record v { labels = add l v.labels } in
+    let changed = with_vertex g id tagged in
+    test (has v.labels l) reply.HasLabel _ tt (
+    test (is_too_large (words_of_vertex changed id tagged) || is_too_large (words_of_slot shape changed (slot_of shape l id))) reply.TooLarge _ tt (at_end tt))))
+of_steps shape g (call.Untag id name) = has_label g name _ (λ l. has_vertex g id _ (λ v. test (not (has v.labels l)) reply.LacksLabel _ tt (at_end tt)))
+of_steps shape g (call.Tags id) = has_vertex g id _ (λ v. at_end tt)
+of_steps shape g (call.Set id prop value) =
+    has_type g prop _ (λ t. has_vertex g id _ (λ v.
+    let set : Vertex = record v { props = with_at v.props t (value ∷ []) } in
+    test (not (same_kind (kind_of value) (kind_at g t))) reply.WrongKind _ tt (large (words_of_vertex (with_vertex g id set) id set) _ tt)))
 of_steps shape g (call.Add id prop value) =
-    has_type g prop _ (λ t. found (reply.NoVertex id) (vertex_at g id) _ tt (λ v. test _ reply.WrongKind _ tt (test _ reply.NotMany _ tt (test _ reply.TooLarge _ tt (at_end tt)))))
-of_steps shape g (call.Get id prop) = has_type g prop _ (λ t. found (reply.NoVertex id) (vertex_at g id) _ tt (λ v. found reply.NoProp _ _ tt (λ values. at_end (values_told _ values))))
-of_steps shape g (call.Unset id prop) = has_type g prop _ (λ t. found (reply.NoVertex id) (vertex_at g id) _ tt (λ v. test _ reply.NoProp _ tt (at_end tt)))
-of_steps shape g (call.Props id) = found (reply.NoVertex id) (vertex_at g id) _ tt (λ v. at_end tt)
+    has_type g prop _ (λ t. has_vertex g id _ (λ v.
+    let longer : Vertex = record v { props = with_at v.props t (values_at v.props t ++ value ∷ []) } in
+    test (not (same_kind (kind_of value) (kind_at g t))) reply.WrongKind _ tt (
+    test (not (is_marked g t)) reply.NotMany _ tt (large (words_of_vertex (with_vertex g id longer) id longer) _ tt))))
+of_steps shape g (call.Get id prop) = has_type g prop _ (λ t. has_vertex g id _ (λ v. found reply.NoProp (at v.props t) _ tt (λ values. at_end (values_told (is_marked g t) values))))
+of_steps shape g (call.Unset id prop) = has_type g prop _ (λ t. has_vertex g id _ (λ v. test (not (is_there v.props t)) reply.NoProp _ tt (at_end tt)))
+of_steps shape g (call.Props id) = has_vertex g id _ (λ v. at_end tt)
 of_steps shape g (call.Edge source target name) = makes false g source target name
 of_steps shape g (call.UEdge source target name) = makes true g source target name
-of_steps shape g (call.Cut source ordinal) = after (edge_or_refusal g source ordinal) _ (edge g source ordinal) (λ e. at_end tt)
-of_steps shape g (call.Target source ordinal) = after (edge_or_refusal g source ordinal) _ (edge g source ordinal) (λ e. at_end tt)
+of_steps shape g (call.Cut source ordinal) = has_edge g source ordinal _ (λ e. at_end tt)
+of_steps shape g (call.Target source ordinal) = has_edge g source ordinal _ (λ e. at_end tt)
 of_steps shape g (call.ETag source ordinal name) =
-    has_label g name _ (λ l. after (edge_or_refusal g source ordinal) _ (edge g source ordinal) (λ e. test _ reply.HasLabel _ tt (test _ reply.TooLarge _ tt (at_end tt))))
-of_steps shape g (call.EUntag source ordinal name) = has_label g name _ (λ l. after (edge_or_refusal g source ordinal) _ (edge g source ordinal) (λ e. test _ reply.LacksLabel _ tt (at_end tt)))
-of_steps shape g (call.ETags source ordinal) = after (edge_or_refusal g source ordinal) _ (edge g source ordinal) (λ e. at_end tt)
+    has_label g name _ (λ l. has_edge g source ordinal _ (λ e.
+    test (has e.labels l) reply.HasLabel _ tt (test (is_edge_too_large (record e { labels = add l e.labels })) reply.TooLarge _ tt (at_end tt))))
+of_steps shape g (call.EUntag source ordinal name) = has_label g name _ (λ l. has_edge g source ordinal _ (λ e. test (not (has e.labels l)) reply.LacksLabel _ tt (at_end tt)))
+of_steps shape g (call.ETags source ordinal) = has_edge g source ordinal _ (λ e. at_end tt)
 of_steps shape g (call.ESet source ordinal prop value) =
-    has_type g prop _ (λ t. after (edge_or_refusal g source ordinal) _ (edge g source ordinal) (λ e. test _ reply.WrongKind _ tt (test _ reply.TooLarge _ tt (at_end tt))))
+    has_type g prop _ (λ t. has_edge g source ordinal _ (λ e.
+    test (not (same_kind (kind_of value) (kind_at g t))) reply.WrongKind _ tt (
+    test (is_edge_too_large (record e { props = with_at e.props t (value ∷ []) })) reply.TooLarge _ tt (at_end tt))))
 of_steps shape g (call.EAdd source ordinal prop value) =
-    has_type g prop _ (λ t. after (edge_or_refusal g source ordinal) _ (edge g source ordinal) (λ e. test _ reply.WrongKind _ tt (test _ reply.NotMany _ tt (test _ reply.TooLarge _ tt (at_end tt)))))
+    has_type g prop _ (λ t. has_edge g source ordinal _ (λ e.
+    test (not (same_kind (kind_of value) (kind_at g t))) reply.WrongKind _ tt (
+    test (not (is_marked g t)) reply.NotMany _ tt (
+    test (is_edge_too_large (record e { props = with_at e.props t (values_at e.props t ++ value ∷ []) })) reply.TooLarge _ tt (at_end tt)))))
 of_steps shape g (call.EGet source ordinal prop) =
-    has_type g prop _ (λ t. after (edge_or_refusal g source ordinal) _ (edge g source ordinal) (λ e. found reply.NoProp _ _ tt (λ values. at_end (values_told _ values))))
-of_steps shape g (call.EUnset source ordinal prop) = has_type g prop _ (λ t. after (edge_or_refusal g source ordinal) _ (edge g source ordinal) (λ e. test _ reply.NoProp _ tt (at_end tt)))
-of_steps shape g (call.EProps source ordinal) = after (edge_or_refusal g source ordinal) _ (edge g source ordinal) (λ e. at_end tt)
+    has_type g prop _ (λ t. has_edge g source ordinal _ (λ e. found reply.NoProp (at e.props t) _ tt (λ values. at_end (values_told (is_marked g t) values))))
+of_steps shape g (call.EUnset source ordinal prop) = has_type g prop _ (λ t. has_edge g source ordinal _ (λ e. test (not (is_there e.props t)) reply.NoProp _ tt (at_end tt)))
+of_steps shape g (call.EProps source ordinal) = has_edge g source ordinal _ (λ e. at_end tt)
 of_steps shape g (call.Edges id dir atoms) =
-    after (names_known g (atoms_of atoms)) _ (known g (atoms_of atoms)) (λ _. test _ (reply.NoVertex id) _ tt (after (kinds_agree g (atoms_of atoms)) _ (kinds g (atoms_of atoms)) (λ _. at_end (all_lines g _ id dir))))
-of_steps shape g (call.Near id dir) = test _ (reply.NoVertex id) _ tt (at_end tt)
-of_steps shape g (call.Degree id dir) = test _ (reply.NoVertex id) _ tt (at_end tt)
+    after (names_known g (atoms_of atoms)) _ (known g (atoms_of atoms)) (λ _.
+    test (not (is_vertex g id)) (reply.NoVertex id) _ tt (
+    after (kinds_agree g (atoms_of atoms)) _ (kinds g (atoms_of atoms)) (λ _. at_end (all_lines g (λ entry. passes_test g atoms entry.1.labels entry.1.props) id dir))))
+of_steps shape g (call.Near id dir) = test (not (is_vertex g id)) (reply.NoVertex id) _ tt (at_end tt)
+of_steps shape g (call.Degree id dir) = test (not (is_vertex g id)) (reply.NoVertex id) _ tt (at_end tt)
 of_steps shape g (call.Find name atoms) =
     has_label g name _ (λ l. after (names_known g (atoms_of atoms)) _ (known g (atoms_of atoms)) (λ _. after (kinds_agree g (atoms_of atoms)) _ (kinds g (atoms_of atoms)) (λ _. at_end tt)))
-of_steps shape g (call.Hood id depth) = test _ (reply.NoVertex id) _ tt (at_end tt)
-of_steps shape g (call.Levels id) = test _ (reply.NoVertex id) _ tt (at_end tt)
+of_steps shape g (call.Hood id depth) = test (not (is_vertex g id)) (reply.NoVertex id) _ tt (at_end tt)
+of_steps shape g (call.Levels id) = test (not (is_vertex g id)) (reply.NoVertex id) _ tt (at_end tt)
 of_steps shape g call.Parts = at_end tt
 of_steps shape g (call.Scan name atoms) =
     after (label_if_named g name) _ (label g name) (λ l. after (names_known g (atoms_of atoms)) _ (known g (atoms_of atoms)) (λ _. after (kinds_agree g (atoms_of atoms)) _ (kinds g (atoms_of atoms)) (λ _. at_end tt)))

@@ -1,5 +1,7 @@
 use Rattle.std.proofs.Common.{arith}
+use Rattle.plain_run.specs.Loading.{txns_of}
 use Rattle.plain_run.proofs.LoadLemmas.{few_entries, legal_behind}
+use Rattle.plain_run.proofs.ToldReplies.{legal_is_told}
 use Rattle.plain_run.proofs.runner.run_texts.Goals as goal
 
 pub run_script-requires : goal.run_script-requires
@@ -10,11 +12,15 @@ run_script-requires c =
     omega (arith, few, entries, txns)
 
 pub returns : goal.returns
-returns c = record {
-  workload = c.in_ok-workload.workload;
-  run = c.in_ok-run.run'.printed;
-  are = c.in_ok-workload.ensures;
-  room = c.in_ok-graph.ensures.room;
-  legal = legal_behind c.args.geometry c.in_ok-workload.workload.load c.in_ok-workload.workload.script c.in_ok-graph.field-0 c.in_ok-run.run' c.in_ok-graph.ensures c.in_ok-run.ensures;
-  printed = c.in_ok-print_outcomes.ensures.text;
-}
+returns c =
+    let workload = c.in_ok-workload.workload in
+    let run = c.in_ok-run.run'.printed in
+    let legal = legal_behind c.args.geometry workload.load workload.script c.in_ok-graph.field-0 c.in_ok-run.run' c.in_ok-graph.ensures c.in_ok-run.ensures in
+    record {
+      workload = workload;
+      run = run;
+      are = c.in_ok-workload.ensures;
+      room = c.in_ok-graph.ensures.room;
+      legal = legal;
+      printed = (c.in_ok-print_outcomes.ensures.alone (legal_is_told c.args.geometry (txns_of workload.load) workload.script run legal)).output;
+    }
