@@ -1,24 +1,18 @@
 -- What a legal run prints is accepted.
-use Rattle.std.proofs.Common.{◌≡◌, ℕ, List, Option, Some, None, inl, inr, Ok, Err, refl, sym, ap, subst}
-use Rattle.std.specs.Prelude.{◌⊎◌, Result, MatchResult}
-use Rattle.gdi_kinds.specs.declared.txn.Txn.{Txn}
+use Rattle.std.proofs.Common.{◌≡◌, ℕ, List, Some, None, inl, inr, Ok, Err, refl, ap, subst}
 use Rattle.gdi_kinds.specs.declared.outcome.Printed.{Printed}
 use Rattle.rma_layout.specs.Shape.{Shape}
 use Rattle.graph_model.specs.LegalRun.{IsLegalRun}
-use Rattle.outcome_text.specs.Runs.{IsOutput}
 use Rattle.outcome_text.proofs.OutputLaw.{output_alone}
-use Rattle.plain_run.specs.declared.run_refused.RunRefused.{RunRefused}
 use Rattle.plain_run.specs.declared.run_refused.RunRefused.TheVariants.{BadLoad, BadScript, LoadFull, NoMemory}
 use Rattle.plain_run.specs.declared.workload.Workload.{Workload}
 use Rattle.plain_run.specs.Given.{Given}
-use Rattle.plain_run.specs.Loading.{txns_of, HasRoom}
-use Rattle.plain_run.specs.Running.{AreTexts, PrintsLegalRun, TellsWhy}
+use Rattle.plain_run.specs.Loading.{txns_of}
+use Rattle.plain_run.specs.Running.{PrintsLegalRun}
 use Rattle.plain_run.proofs.RightTexts.{right_texts, workload_same}
 use Rattle.run_check.specs.declared.illegal.Illegal.{Illegal}
-use Rattle.plain_check.specs.declared.check_refused.CheckRefused.{CheckRefused}
 use Rattle.plain_check.specs.declared.check_refused.CheckRefused.TheVariants.{Texts, BadOutput}
-use Rattle.plain_check.specs.Checking.{IsVerdict, PrintsIllegalRun}
-use Rattle.plain_check.specs.Refusals.{IsUnchecked}
+use Rattle.plain_check.specs.Checking.{PrintsIllegalRun}
 use Rattle.plain_check.specs.Laws.{RightOutputsAreNotRefused, WhatRunsPrintIsAccepted}
 
 pub right_outputs : RightOutputsAreNotRefused

@@ -20,7 +20,7 @@ use Rattle.run_check.specs.declared.illegal.Illegal.{Illegal}
 use Rattle.run_check.specs.Clauses.{FailsFirst}
 use Rattle.run_check.specs.Laws.{IllegalOnesAreNot}
 use Rattle.run_replay.specs.Judging.{IsBehindLoad}
-use Rattle.plain_check.specs.Checking.{FailsAt, IsVerdict}
+use Rattle.plain_check.specs.Checking.{IsVerdict}
 
 -- a verdict by these graphs
 abbrev Judged : Shape → ℕ → List Txn → List (List Txn) → Printed → Option Illegal → Type 0
