@@ -2,6 +2,10 @@
 #![tactic(auto)]
 
 #[cfg(test)]
+mod edge_loops;
+#[cfg(test)]
+mod edge_ways;
+#[cfg(test)]
 mod edges;
 #[cfg(test)]
 mod keeping;
