@@ -5,10 +5,12 @@ ghost use Rattle.held_objects.specs.Changes.{any};
 ghost use Rattle.vertex_ops.specs.Vertices.{KnowsVertex};
 ghost use Rattle.edge_ops.specs.HeldEdges.{KnowsOut};
 
+use crate::edges::turn;
 use crate::keeping::Keeping;
 use edge_ops::{cut, lines};
 use gdi_kinds::{Dir, EdgeLine, EdgeList, Reply};
 use object_store::{PlainStore, Store};
+use object_words::Words;
 use rma_layout::{DPtr, Geometry};
 use std::alloc::Global;
 use std::test::Fail;
@@ -95,5 +97,50 @@ fn undirected_loops_are_listed_twice(rt: HostRuntime) -> Result<(), Fail> {
     assert!(rt; is_loop(out, false, true));
     assert!(rt; is_loop(into, false, true));
     assert!(rt; after.as_slice().is_empty());
+    Ok(())
+}
+
+/// The words of a vertex whose loop is made with a label, gets a second one, and loses it again.
+#[derive(Debug, Drop)]
+struct Forms {
+    made: Words,
+    heavy: Words,
+    light: Words,
+}
+
+fn turn_loop<S: Store<Keeping>>(alloc: Global, store: &mut S) -> Result<Option<Forms>, S::Refused>
+    requires { (S.state store.old).phase ≡ Idle }
+{
+    store.begin(true)?;
+    let Some(looped) = make_loop(alloc, store, Some(0), false)? else {
+        store.abort();
+        return Ok(None);
+    };
+    let made = store.read(looped.at)?;
+    let _ = turn(alloc, store, looped.at, looped.ordinal, true)?;
+    let heavy = store.read(looped.at)?;
+    let _ = turn(alloc, store, looped.at, looped.ordinal, false)?;
+    let light = store.read(looped.at)?;
+    store.abort();
+    Ok(Some(Forms { made, heavy, light }))
+}
+
+#[test]
+fn a_loop_turns_heavy_and_light(rt: HostRuntime) -> Result<(), Fail> {
+    let mut store = PlainStore::<Keeping>::new(rt.alloc(), Geometry::standard())?;
+    let Ok(Some(forms)) = turn_loop(rt.alloc(), &mut store) else {
+        return Err("refused".into());
+    };
+    let made = forms.made.as_slice();
+    let [5, 1, 0, 0, 2, 0, 0, 5, out_at, 1, 1, 0, 5, in_at, 1] = made else {
+        return Err("not two light records".into());
+    };
+    assert_eq!(rt; out_at, in_at);
+    let [5, 1, 0, 0, 2, 0, 0, 5, _, out, 1, 0, 5, _, into] = forms.heavy.as_slice() else {
+        return Err("not two records".into());
+    };
+    assert!(rt; *out >= 1 << 63);
+    assert_eq!(rt; out, into);
+    assert_eq!(rt; forms.light.as_slice(), made);
     Ok(())
 }

@@ -2,6 +2,8 @@
 #![tactic(auto)]
 
 #[cfg(test)]
+mod edge_forms;
+#[cfg(test)]
 mod edge_loops;
 #[cfg(test)]
 mod edge_ways;
@@ -13,5 +15,7 @@ mod keeping;
 mod labels;
 #[cfg(test)]
 mod names;
+#[cfg(test)]
+mod reading;
 #[cfg(test)]
 mod vertices;
