@@ -1,6 +1,7 @@
-ghost use Rattle.std.specs.Prelude.{◌≡◌, IfOk, MatchOption, OnOk};
+ghost use Rattle.std.specs.Prelude.{◌≡◌, [], IfOk, MatchOption, OnOk};
 ghost use Rattle.rma_layout.specs.Placement.{IsBlock};
 ghost use Rattle.object_store.specs.declared.phase.Phase.TheVariants.{Idle, Writing};
+ghost use Rattle.graph_model.specs.Maps.{IsSet};
 ghost use Rattle.holder_codec.specs.EdgeObject.{IsEdgeHolder};
 ghost use Rattle.held_objects.specs.Changes.{any};
 ghost use Rattle.vertex_ops.specs.Vertices.{KnowsVertex};
@@ -18,13 +19,13 @@ use std::test::Fail;
 
 /// Two vertices, and an edge from the one to the other.
 #[derive(Debug, Drop)]
-struct Joined {
-    from: DPtr,
-    to: DPtr,
-    ordinal: u64,
+pub(crate) struct Joined {
+    pub from: DPtr,
+    pub to: DPtr,
+    pub ordinal: u64,
 }
 
-fn join<S: Store<Keeping>>(
+pub(crate) fn join<S: Store<Keeping>>(
     alloc: Global,
     store: &mut S,
     label: Option<u32>,
@@ -164,17 +165,26 @@ fn listed_and_cut(rt: HostRuntime) -> Result<(), Fail> {
     Ok(())
 }
 
-/// The same edge with two labels, and no property.
-fn with_two(alloc: Global, ordinal: u64, edge: &EdgeHolder) -> Result<EdgeHolder, NoMemory>
+/// The same edge with one label, or with two, and no property.
+fn with_labels(
+    alloc: Global,
+    ordinal: u64,
+    edge: &EdgeHolder,
+    two: bool,
+) -> Result<EdgeHolder, NoMemory>
     requires { IsEdgeHolder edge.now }
     ensures source { IfOk result (λ made. made.source ≡ edge.now.source) }
     ensures ordinal { IfOk result (λ made. made.ordinal ≡ ordinal) }
     ensures target { IfOk result (λ made. made.target ≡ edge.now.target) }
+    ensures labels { IfOk result (λ made. IsSet made.labels) }
+    ensures props { IfOk result (λ made. made.props ≡ []) }
     ensures is { IfOk result IsEdgeHolder }
 {
     let mut labels = U32List::new(alloc);
     labels.push(0)?;
-    labels.push(1)?;
+    if two {
+        labels.push(1)?;
+    }
     Ok(EdgeHolder {
         source: edge.source,
         ordinal,
@@ -184,23 +194,25 @@ fn with_two(alloc: Global, ordinal: u64, edge: &EdgeHolder) -> Result<EdgeHolder
     })
 }
 
-/// Gives an edge two labels, so that it has an object of its own.
-fn turn_heavy<S: Store<Keeping>>(
+/// Gives an edge two labels, so that it has an object of its own, or one, so that it has none.
+pub(crate) fn turn<S: Store<Keeping>>(
     alloc: Global,
     store: &mut S,
     from: DPtr,
     ordinal: u64,
+    heavy: bool,
 ) -> Result<Option<bool>, S::Refused>
     requires begun { (S.state store.old).phase ≡ Writing }
     requires object { IsBlock (S.state store.old).shape from }
     requires edge { KnowsOut from ordinal any (S.state store.old) }
     ensures begun { OnOk result ((S.state store.new).phase ≡ Writing) }
     ensures shape { OnOk result ((S.state store.new).shape ≡ (S.state store.old).shape) }
+    ensures edge { OnOk result (KnowsOut from ordinal any (S.state store.new)) }
 {
     let Some(found) = load(alloc, store, from, ordinal)? else {
         return Ok(None);
     };
-    let Ok(wanted) = with_two(alloc, ordinal, &found.holder) else {
+    let Ok(wanted) = with_labels(alloc, ordinal, &found.holder, heavy) else {
         return Ok(None);
     };
     let kept = keep(alloc, store, from, &wanted)?;
@@ -223,7 +235,7 @@ fn make_heavy<S: Store<Keeping>>(alloc: Global, store: &mut S) -> Result<Option<
         store.abort();
         return Ok(None);
     };
-    let Some(kept) = turn_heavy(alloc, store, joined.from, joined.ordinal)? else {
+    let Some(kept) = turn(alloc, store, joined.from, joined.ordinal, true)? else {
         store.abort();
         return Ok(None);
     };

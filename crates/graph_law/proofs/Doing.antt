@@ -1,0 +1,94 @@
+-- A call does to a store what it does to the graph: where it leaves the graph, and where it changes it.
+use Rattle.std.proofs.Common.{◌≡◌, ◌≢◌, ◌∙◌, ℕ, ◌+◌, ◌<◌, Bool, true, false, not, ◌&&◌, cond, Option, Some, None, refl, sym, ap, subst, arith, ◌⊎◌, inl, inr}
+use Rattle.std.specs.Prelude.{count_by, is_some, ◌==◌, MatchBool}
+use Rattle.std.specs.Option.{option_map_or, option_to_list}
+use Rattle.std.proofs.lemmas.Bool.Decides.{nat_tests}
+use Rattle.gdi_kinds.specs.declared.call.Call.{Call}
+use Rattle.gdi_kinds.specs.declared.reply.Reply.{Reply}
+use Rattle.rma_layout.specs.Shape.{Shape}
+use Rattle.rma_layout.specs.Placement.{Place, IsReserved}
+use Rattle.object_words.specs.Contents.{Contents, content_of, overlay, words_at, is_empty}
+use Rattle.object_words.specs.Blocks.{is_reserved, made_objects, on_rank, one_if}
+use Rattle.object_store.proofs.Counting.{total_same}
+use Rattle.graph_model.specs.Graph.{Graph}
+use Rattle.graph_model.specs.Calls.{graph_after_call, reply_to}
+use Rattle.graph_model.specs.Capacity.{Object, Reserved, OfVertex, OfHeavyEdge, is_object, make_of, object_to_make, rank_if_made}
+use Rattle.graph_model.specs.WellFormed.{IsWellFormed}
+use Rattle.holder_codec.specs.Represents.{EdgeObjects, IsRepresented, Represents, VertexObjects}
+use Rattle.object_view.specs.View.{IsOn, place_in}
+use Rattle.graph_law.specs.Calls.{ComesFrom, DoesCall, made_by}
+
+-- ---- objects
+
+pub is_there : {shape : Shape} {g : Graph} (rank : ℕ) (object : Object) → IsOn shape g rank object → is_object g object ≡ true
+is_there rank (Reserved block) on = refl
+is_there rank (OfVertex id) on = on.1
+is_there rank (OfHeavyEdge source ordinal) on = on.1
+
+-- an object that was there and is in its place
+pub stays_there : {store : Contents} {was : Bool} {before after : Place} → was ≡ true → after ≡ before → ComesFrom store was before after
+stays_there {store} {was} {before} {after} is same = subst (λ (b : Bool). ComesFrom store b before after) (sym is) same
+
+-- ---- how many are made
+
+made_alike : (reserved empty : Bool) (one other : Bool) → (reserved ≡ false → one ≡ other) → one_if (not reserved && empty && one) ≡ one_if (not reserved && empty && other)
+made_alike true empty one other same = refl
+made_alike false empty one other same = ap (λ b. one_if (empty && b)) (same refl)
+
+-- as many as before, where no other objects are written but reserved ones
+pub made_same : (shape : Shape) (store before after : Contents) (rank : ℕ)
+    → ((place : Place) → IsReserved shape place.block ⊎ (words_at after place ≡ words_at before place)) → made_objects shape store after rank ≡ made_objects shape store before rank
+made_same shape store before after rank same = total_same shape.blocks _ _ (λ block _.
+    made_alike (is_reserved shape block) (is_empty (content_of store (on_rank rank block))) (is_some (words_at after (on_rank rank block))) (is_some (words_at before (on_rank rank block)))
+    (λ unreserved. ap is_some (left block unreserved (same (on_rank rank block)))))
+  where
+    left : (block : ℕ) → is_reserved shape block ≡ false → IsReserved shape block ⊎ (words_at after (on_rank rank block) ≡ words_at before (on_rank rank block))
+        → words_at after (on_rank rank block) ≡ words_at before (on_rank rank block)
+    left block unreserved (inl reserved) = absurd (grind (arith, nat_tests, unreserved, reserved))
+    left block unreserved (inr is) = is
+
+-- a call that leaves the graph makes none
+none_made : (g : Graph) (made : ℕ × Object) → rank_if_made g g made ≡ None
+none_made g made = cases (is_object g made.1)
+  where
+    cases : (b : Bool) → cond (not b && b) (Some made.0) None ≡ None
+    cases true = refl
+    cases false = refl
+
+pub makes_nothing : (shape : Shape) (g : Graph) (call : Call) → graph_after_call shape g call ≡ g → make_of shape g call ≡ None
+makes_nothing shape g call same = cases (object_to_make shape call)
+  where
+    cases : (o : Option (ℕ × Object)) → option_map_or (rank_if_made g (graph_after_call shape g call)) o None ≡ None
+    cases None = refl
+    cases (Some made) = ap (λ h. rank_if_made g h made) same ∙ none_made g made
+
+pub makes_no_more : (shape : Shape) (g : Graph) (call : Call) (rank n : ℕ) → make_of shape g call ≡ None → n ≡ n + made_by shape g call rank
+makes_no_more shape g call rank n none = let zero : made_by shape g call rank ≡ 0 = ap (λ o. count_by (λ r. r == rank) (option_to_list o)) none in omega (arith, zero)
+
+-- ---- what a call does
+
+module _ {shape : Shape} {call : Call} {reply : Reply} {store before after : Contents} {g : Graph} (is : Represents shape (overlay store before) g) where
+  -- said of a graph that is the one after the call
+  pub does_to : (h : Graph) (vertices : VertexObjects) (edges : EdgeObjects) → graph_after_call shape g call ≡ h → reply ≡ reply_to shape g call
+      → IsWellFormed h → IsRepresented shape (overlay store after) h vertices edges
+      → ((rank : ℕ) (object : Object) → IsOn shape h rank object → ComesFrom store (is_object g object) (place_in is.vertices is.edges rank object) (place_in vertices edges rank object))
+      → ((rank : ℕ) → rank < shape.ranks → made_objects shape store after rank ≡ made_objects shape store before rank + made_by shape g call rank)
+      → DoesCall shape call reply store before after g is
+  does_to h vertices edges same answer well represented objects made = record {
+    answer = answer;
+    represents = record {
+      well_formed = subst IsWellFormed (sym same) well;
+      vertices = vertices;
+      edges = edges;
+      represented = subst (λ (k : Graph). IsRepresented shape (overlay store after) k vertices edges) (sym same) represented;
+    };
+    objects = λ rank object on. objects rank object (subst (λ (k : Graph). IsOn shape k rank object) same on);
+    made = made;
+  }
+
+  -- a call that looks, or is refused
+  pub leaves : graph_after_call shape g call ≡ g → reply ≡ reply_to shape g call → after ≡ before → DoesCall shape call reply store before after g is
+  leaves same answer unwritten = does_to g is.vertices is.edges same answer is.well_formed
+      (subst (λ (writes : Contents). IsRepresented shape (overlay store writes) g is.vertices is.edges) (sym unwritten) is.represented)
+      (λ rank object on. stays_there (is_there rank object on) refl)
+      (λ rank _. ap (λ (writes : Contents). made_objects shape store writes rank) unwritten ∙ makes_no_more shape g call rank (made_objects shape store before rank) (makes_nothing shape g call same))

@@ -1,0 +1,2 @@
+pub mod NamesChanged
+pub mod NameCalls

@@ -1,0 +1,30 @@
+ghost use Rattle.std.specs.Prelude.{IfErr, IfOk};
+ghost use Rattle.gdi_kinds.specs.declared.call.Call.TheVariants.{NewLabel};
+ghost use Rattle.rma_layout.specs.Placement.{metadata};
+ghost use Rattle.object_store.specs.Works.{At, Works};
+ghost use Rattle.held_objects.specs.Knows.{Knows};
+ghost use Rattle.graph_law.specs.Calls.{AppliesCall, MayCall, MayMakeOn, RefusesCall, Stands};
+ghost use Rattle.graph_law.specs.Law.{Fits};
+
+use gdi_kinds::{Name, Reply};
+use graph_law::GraphLaw;
+use meta_tables::add_label;
+use object_store::Store;
+use std::alloc::Global;
+
+/// Makes a label: Done. Exists where there is one of this name, TooLarge where the names would have more words than an
+/// object may have.
+pub fn new_label<S: Store<GraphLaw>>(
+    alloc: Global,
+    store: &mut S,
+    name: &Name,
+) -> Result<Reply, S::Refused>
+    requires may { MayCall (NewLabel name.now) (S.state store.old) }
+    requires stands { Knows Stands (S.state store.old) }
+    ensures works { Works Fits S.state S.explains S.says (At metadata) (MayMakeOn (NewLabel name.now)) store.old store.new result }
+    ensures applied { IfOk result (λ reply. AppliesCall (NewLabel name.now) (S.state store.old) (S.state store.new) reply) }
+    ensures refused { IfErr result (λ why. RefusesCall (NewLabel name.now) (S.state store.old) (S.says why)) }
+{
+    let reply = add_label(alloc, store, name)?;
+    Ok(reply)
+}
