@@ -25,6 +25,9 @@ pub fn new_label<S: Store<GraphLaw>>(
     ensures applied { IfOk result (λ reply. AppliesCall (NewLabel name.now) (S.state store.old) (S.state store.new) reply) }
     ensures refused { IfErr result (λ why. RefusesCall (NewLabel name.now) (S.state store.old) (S.says why)) }
 {
+    let geometry = store.geometry();
+    geometry.keeps_ranges();
+    let _ = name.bytes();
     let reply = add_label(alloc, store, name)?;
     Ok(reply)
 }

@@ -27,6 +27,9 @@ pub fn new_type<S: Store<GraphLaw>>(
     ensures applied { IfOk result (λ reply. AppliesCall (NewType name.now kind many) (S.state store.old) (S.state store.new) reply) }
     ensures refused { IfErr result (λ why. RefusesCall (NewType name.now kind many) (S.state store.old) (S.says why)) }
 {
+    let geometry = store.geometry();
+    geometry.keeps_ranges();
+    let _ = name.bytes();
     let reply = add_type(alloc, store, name, kind, many)?;
     Ok(reply)
 }
