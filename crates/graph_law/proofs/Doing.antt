@@ -1,6 +1,6 @@
 -- A call does to a store what it does to the graph: where it leaves the graph, and where it changes it.
 use Rattle.std.proofs.Common.{◌≡◌, ◌≢◌, ◌∙◌, ℕ, ◌+◌, ◌<◌, Bool, true, false, not, ◌&&◌, cond, Option, Some, None, refl, sym, ap, subst, arith, ◌⊎◌, inl, inr}
-use Rattle.std.specs.Prelude.{count_by, is_some, ◌==◌, MatchBool}
+use Rattle.std.specs.Prelude.{IsSome, count_by, is_some, ◌==◌, MatchBool}
 use Rattle.std.specs.Option.{option_map_or, option_to_list}
 use Rattle.std.proofs.lemmas.Bool.Decides.{nat_tests}
 use Rattle.gdi_kinds.specs.declared.call.Call.{Call}
@@ -16,18 +16,20 @@ use Rattle.graph_model.specs.Capacity.{Object, Reserved, OfVertex, OfHeavyEdge, 
 use Rattle.graph_model.specs.WellFormed.{IsWellFormed}
 use Rattle.holder_codec.specs.Represents.{EdgeObjects, IsRepresented, Represents, VertexObjects}
 use Rattle.object_view.specs.View.{IsOn, place_in}
-use Rattle.graph_law.specs.Calls.{ComesFrom, DoesCall, made_by}
+use Rattle.object_store.specs.State.{Said, StoreState, names_nothing, names_object, names_rank}
+use Rattle.object_store.specs.Works.{RefusesReach}
+use Rattle.graph_law.specs.Calls.{ComesFrom, DoesCall, RefusesCall, made_by}
 
 -- ---- objects
 
-pub is_there : {shape : Shape} {g : Graph} (rank : ℕ) (object : Object) → IsOn shape g rank object → is_object g object ≡ true
-is_there rank (Reserved block) on = refl
-is_there rank (OfVertex id) on = on.1
-is_there rank (OfHeavyEdge source ordinal) on = on.1
+pub is_there : (shape : Shape) (g : Graph) (rank : ℕ) (object : Object) → IsOn shape g rank object → is_object g object ≡ true
+is_there shape g rank (Reserved block) on = refl
+is_there shape g rank (OfVertex id) on = on.1
+is_there shape g rank (OfHeavyEdge source ordinal) on = on.1
 
 -- an object that was there and is in its place
-pub stays_there : {store : Contents} {was : Bool} {before after : Place} → was ≡ true → after ≡ before → ComesFrom store was before after
-stays_there {store} {was} {before} {after} is same = subst (λ (b : Bool). ComesFrom store b before after) (sym is) same
+pub stays_there : (store : Contents) {was : Bool} {before after : Place} → was ≡ true → after ≡ before → ComesFrom store was before after
+stays_there store {was} {before} {after} is same = subst (λ (b : Bool). ComesFrom store b before after) (sym is) same
 
 -- ---- how many are made
 
@@ -90,5 +92,23 @@ module _ {shape : Shape} {call : Call} {reply : Reply} {store before after : Con
   pub leaves : graph_after_call shape g call ≡ g → reply ≡ reply_to shape g call → after ≡ before → DoesCall shape call reply store before after g is
   leaves same answer unwritten = does_to g is.vertices is.edges same answer is.well_formed
       (subst (λ (writes : Contents). IsRepresented shape (overlay store writes) g is.vertices is.edges) (sym unwritten) is.represented)
-      (λ rank object on. stays_there (is_there rank object on) refl)
+      (λ rank object on. stays_there store (is_there shape g rank object on) refl)
       (λ rank _. ap (λ (writes : Contents). made_objects shape store writes rank) unwritten ∙ makes_no_more shape g call rank (made_objects shape store before rank) (makes_nothing shape g call same))
+
+-- ---- refusals
+
+nothing_apart : (rank : ℕ) → names_nothing ≡ names_rank rank → ⊥
+nothing_apart rank never = cc
+
+object_apart : (object : Place) (rank : ℕ) → names_object object ≡ names_rank rank → ⊥
+object_apart object rank never = cc
+
+-- a call that makes no object names no rank
+pub refuses_no_rank : {N : Type 0} {call : Call} {Reached : Place → Type 0} {old new : StoreState N} {said : Said} → RefusesReach Reached (λ _. ⊥) old new said → RefusesCall call old said
+refuses_no_rank {Reached = Reached} {old = old} {said = said} refused = record { makes = λ _ rank named _ _. absurd (none rank refused.names named) }
+  where
+    none : (rank : ℕ) → (said.names ≡ names_nothing) ⊎ ((object : Place) × (said.names ≡ names_object object) × (Reached object ⊎ IsSome (words_at old.reads object) ⊎ ⊥))
+        ⊎ ((other : ℕ) × (said.names ≡ names_rank other) × ⊥) → said.names ≡ names_rank rank → ⊥
+    none rank (inl nothing) named = nothing_apart rank (sym nothing ∙ named)
+    none rank (inr (inl one)) named = object_apart one.0 rank (sym one.1 ∙ named)
+    none rank (inr (inr never)) named = never.2

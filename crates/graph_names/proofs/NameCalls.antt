@@ -55,23 +55,23 @@ use Rattle.graph_names.proofs.NamesChanged.{SameProps, index_with_label, names_c
 abbrev StepsTo : Graph → Graph → Bool → Bool → Step Answer
 StepsTo g h there large = refused_if there Exists >>= (λ _. refused_if large TooLarge >>= (λ _. leaves h Done))
 
-module _ {shape : Shape} {g : Graph} {call : Call} {reply : Reply} (h : Graph) where
-  abbrev Left : Type 0
-  Left = (graph_after_call shape g call ≡ g) × (reply ≡ reply_to shape g call) × (reply ≢ Done)
+abbrev Left : Shape → Graph → Call → Reply → Type 0
+Left shape g call reply = (graph_after_call shape g call ≡ g) × (reply ≡ reply_to shape g call) × (reply ≢ Done)
 
-  abbrev Changed : Bool → Type 0
-  Changed there = (graph_after_call shape g call ≡ h) × (reply ≡ reply_to shape g call) × (reply ≡ Done) × (there ≡ false)
+abbrev Changed : Shape → Graph → Graph → Call → Reply → Bool → Type 0
+Changed shape g h call reply there = (graph_after_call shape g call ≡ h) × (reply ≡ reply_to shape g call) × (reply ≡ Done) × (there ≡ false)
 
-  ends : (there large : Bool) → steps_of shape g call ≡ StepsTo g h there large → reply ≡ cond there Exists (cond large TooLarge Done) → Left ⊎ Changed there
-  ends true large steps is = inl (ap (λ s. (answer_of g s).graph) steps, is ∙ sym (ap (λ s. (answer_of g s).reply) steps), λ done. exists_apart (sym is ∙ done))
-    where
-      exists_apart : Exists ≡ Done → ⊥
-      exists_apart never = cc
-  ends false true steps is = inl (ap (λ s. (answer_of g s).graph) steps, is ∙ sym (ap (λ s. (answer_of g s).reply) steps), λ done. large_apart (sym is ∙ done))
-    where
-      large_apart : TooLarge ≡ Done → ⊥
-      large_apart never = cc
-  ends false false steps is = inr (ap (λ s. (answer_of g s).graph) steps, is ∙ sym (ap (λ s. (answer_of g s).reply) steps), is, refl)
+exists_apart : Exists ≡ Done → ⊥
+exists_apart never = cc
+
+large_apart : TooLarge ≡ Done → ⊥
+large_apart never = cc
+
+ends : (shape : Shape) (g h : Graph) (call : Call) {reply : Reply} (there large : Bool) → steps_of shape g call ≡ StepsTo g h there large → reply ≡ cond there Exists (cond large TooLarge Done)
+    → Left shape g call reply ⊎ Changed shape g h call reply there
+ends shape g h call true large steps is = inl (ap (λ s. (answer_of g s).graph) steps, is ∙ sym (ap (λ s. (answer_of g s).reply) steps), λ done. exists_apart (sym is ∙ done))
+ends shape g h call false true steps is = inl (ap (λ s. (answer_of g s).graph) steps, is ∙ sym (ap (λ s. (answer_of g s).reply) steps), λ done. large_apart (sym is ∙ done))
+ends shape g h call false false steps is = inr (ap (λ s. (answer_of g s).graph) steps, is ∙ sym (ap (λ s. (answer_of g s).reply) steps), is, refl)
 
 replied : (there : Bool) (made : MetaHolder) → held.reply_to size (cond there (Refused Exists) (Made made)) ≡ cond there Exists (cond (is_too_large (size made)) TooLarge Done)
 replied true made = refl
@@ -92,6 +92,11 @@ knows_names {N} {state} knows = record {
 }
 
 -- ---- the store afterwards
+
+there : (shape : Shape) (g : Graph) (labels : List Name) (types : List PropType) (rank : ℕ) (object : Object) → IsOn shape (record g { labels = labels; types = types }) rank object → is_object g object ≡ true
+there shape g labels types rank (Reserved block) on = refl
+there shape g labels types rank (OfVertex id) on = on.1
+there shape g labels types rank (OfHeavyEdge source ordinal) on = on.1
 
 module _ {N : Type 0} {old new : StoreState N} {Makes : ℕ → Type 0} (ranges : IsInRange old.shape) (reaches : Reaches (At metadata old.shape) Makes old new)
     (old_in_order : IsByRisingObject old.writes) (new_in_order : IsByRisingObject new.writes) where
@@ -120,11 +125,6 @@ module _ {N : Type 0} {old new : StoreState N} {Makes : ℕ → Type 0} (ranges 
   }
 
   module _ {call : Call} {reply : Reply} (store : Contents) (g : Graph) (is : Represents old.shape (overlay store old.writes) g) (labels : List Name) (types : List PropType) where
-    there : (rank : ℕ) (object : Object) → IsOn old.shape (record g { labels = labels; types = types }) rank object → is_object g object ≡ true
-    there rank (Reserved block) on = refl
-    there rank (OfVertex id) on = on.1
-    there rank (OfHeavyEdge source ordinal) on = on.1
-
     names_did : graph_after_call old.shape g call ≡ record g { labels = labels; types = types } → reply ≡ reply_to old.shape g call → IsWellFormed (record g { labels = labels; types = types })
         → (made : MetaHolder) → HasNames (overlay store new.writes) made → names_words made.labels (map type_of made.types) ≡ names_words labels types
         → HasIndex old.shape (overlay store old.writes) (length labels) g.vertices
@@ -132,7 +132,7 @@ module _ {N : Type 0} {old new : StoreState N} {Makes : ℕ → Type 0} (ranges 
         → make_of old.shape g call ≡ None → DoesCall old.shape call reply store old.writes new.writes g is
     names_did after answer fits made holds spelled index vertex_props edge_props unmade = doing.does_to is (record g { labels = labels; types = types }) is.vertices is.edges after answer fits
         (names_changed old.shape (overlay store old.writes) (overlay store new.writes) g is.vertices is.edges is.represented (same store) labels types (holds.words ∙ spelled) holds.within index vertex_props edge_props)
-        (λ rank object on. doing.stays_there (there rank object on) refl)
+        (λ rank object on. doing.stays_there store (there old.shape g labels types rank object on) refl)
         (λ rank _. doing.made_same old.shape store old.writes new.writes rank only_reserved ∙ doing.makes_no_more old.shape g call rank (made_objects old.shape store old.writes rank) unmade)
 
   -- what a call on names does
@@ -165,13 +165,13 @@ module _ {N : Type 0} {old new : StoreState N} {Makes : ℕ → Type 0} (ranges 
           let spelled = ap (names_words (g.labels ++ name ∷ [])) (types_back g.types) in
           let sized : size made ≡ words_of_names h = ap length spelled ∙ names_size h in
           let answered = changes.answer store (names_of g) agrees held ∙ (replied (is_some (label_number g name)) made ∙ ap (λ n. cond (is_some (label_number g name)) Exists (cond (is_too_large n) TooLarge Done)) sized) in
-          elim (ends {shape = old.shape} {g = g} {call = NewLabel name} h (is_some (label_number g name)) (is_too_large (words_of_names h)) refl answered) [
+          elim (ends old.shape g h (NewLabel name) (is_some (label_number g name)) (is_too_large (words_of_names h)) refl answered) [
             | inl left ↦ doing.leaves is left.0 left.1 (changes.unchanged left.2).writes
             | inr done ↦
-              let holds = subst (λ b. IfMade (HasNames (overlay store new.writes)) (cond b (Refused Exists) (Made made))) done.3 (changes.changed done.2 store (names_of g) agrees held) in
-              names_did store g is (g.labels ++ name ∷ []) g.types done.0 done.1 (well.new_label g name is.well_formed is_name done.3) made holds spelled
-              (index_with_label old.shape (overlay store old.writes) g name is.well_formed is.represented.index)
-              (all (λ entry. SameProps g.types g.types entry.1.props) (λ _. refl) g.vertices) (all (λ entry. SameProps g.types g.types entry.1.props) (λ _. refl) (heavy_edges g.edges)) refl
+                let holds = subst (λ b. IfMade (HasNames (overlay store new.writes)) (cond b (Refused Exists) (Made made))) done.3 (changes.changed done.2 store (names_of g) agrees held) in
+                names_did store g is (g.labels ++ name ∷ []) g.types done.0 done.1 (well.new_label g name is.well_formed is_name done.3) made holds spelled
+                (index_with_label old.shape (overlay store old.writes) g name is.well_formed is.represented.index)
+                (all (λ entry. SameProps g.types g.types entry.1.props) (λ _. refl) g.vertices) (all (λ entry. SameProps g.types g.types entry.1.props) (λ _. refl) (heavy_edges g.edges)) refl
           ]
 
   pub type_applied : {name : Name} {kind : Kind} {many : Bool} {reply : Reply} → IsName name
@@ -191,18 +191,18 @@ module _ {N : Type 0} {old new : StoreState N} {Makes : ℕ → Type 0} (ranges 
           let sized : size made ≡ words_of_names h = ap length spelled ∙ names_size h in
           let found : is_some (meta.type_number name (names_of g)) ≡ is_some (type_number g name) = ap is_some (numbers g.types) in
           let answered = changes.answer store (names_of g) agrees held
-              ∙ (replied (is_some (meta.type_number name (names_of g))) made
-              ∙ (ap (λ n. cond (is_some (meta.type_number name (names_of g))) Exists (cond (is_too_large n) TooLarge Done)) sized
-              ∙ ap (λ b. cond b Exists (cond (is_too_large (words_of_names h)) TooLarge Done)) found)) in
-          elim (ends {shape = old.shape} {g = g} {call = NewType name kind many} h (is_some (type_number g name)) (is_too_large (words_of_names h)) refl answered) [
+          ∙ (replied (is_some (meta.type_number name (names_of g))) made
+          ∙ (ap (λ n. cond (is_some (meta.type_number name (names_of g))) Exists (cond (is_too_large n) TooLarge Done)) sized
+          ∙ ap (λ b. cond b Exists (cond (is_too_large (words_of_names h)) TooLarge Done)) found)) in
+          elim (ends old.shape g h (NewType name kind many) (is_some (type_number g name)) (is_too_large (words_of_names h)) refl answered) [
             | inl left ↦ doing.leaves is left.0 left.1 (changes.unchanged left.2).writes
             | inr done ↦
-              let holds = subst (λ b. IfMade (HasNames (overlay store new.writes)) (cond b (Refused Exists) (Made made))) (found ∙ done.3) (changes.changed done.2 store (names_of g) agrees held) in
-              names_did store g is g.labels (g.types ++ type ∷ []) done.0 done.1 (well.new_type g name kind many is.well_formed is_name done.3) made holds spelled is.represented.index
-              (All-map (λ entry. VertexFits g entry.0 entry.1) (λ entry. SameProps (g.types ++ type ∷ []) g.types entry.1.props) (λ entry fits. props_stay g type entry.1.props fits.props.1) g.vertices is.well_formed.each_vertex)
-              (All-filter _ (λ entry. SameProps (g.types ++ type ∷ []) g.types entry.1.props) _ (λ entry fits. props_stay g type entry.1.props fits.props.1) g.edges is.well_formed.each_edge) refl
+                let holds = subst (λ b. IfMade (HasNames (overlay store new.writes)) (cond b (Refused Exists) (Made made))) (found ∙ done.3) (changes.changed done.2 store (names_of g) agrees held) in
+                names_did store g is g.labels (g.types ++ type ∷ []) done.0 done.1 (well.new_type g name kind many is.well_formed is_name done.3) made holds spelled is.represented.index
+                (All-map (λ entry. VertexFits g entry.0 entry.1) (λ entry. SameProps (g.types ++ type ∷ []) g.types entry.1.props) (λ entry fits. props_stay g type entry.1.props fits.props.1) g.vertices is.well_formed.each_vertex)
+                (All-filter _ (λ entry. SameProps (g.types ++ type ∷ []) g.types entry.1.props) _ (λ entry _ fits. props_stay g type entry.1.props fits.props.1) g.edges is.well_formed.each_edge) refl
           ]
         where
-          numbers : (types : List PropType) → place_where (λ line. bytes_eq name line.name) (map (λ one. record { name = one.name; kind = one.kind; many = one.many }) types) ≡ place_where (λ one. bytes_eq name one.name) types
+          numbers : (types : List PropType) → place_where (λ (line : TypeLine). bytes_eq name line.name) (map (λ (one : PropType). record { name = one.name; kind = one.kind; many = one.many }) types) ≡ place_where (λ (one : PropType). bytes_eq name one.name) types
           numbers [] = refl
           numbers (one ∷ more) = ap (λ o. cond (bytes_eq name one.name) (Some 0) (option_map suc o)) (numbers more)

@@ -73,22 +73,22 @@ module _ (shape : Shape) (one other : Contents) (g : Graph) (vertices : VertexOb
       words_same : (key : EdgeKey) (edge : Edge) → SameProps types g.types edge.props → edge_words g.types key edge ≡ edge_words types key edge
       words_same key edge props = ap (λ ps. key.source ∷ key.ordinal ∷ edge.target ∷ length edge.labels ∷ length ps ∷ (flat_map label_words edge.labels ++ flat_map prop_words ps)) (sym props)
 
+      untied : eq_by_cmp place_cmp metadata metadata ≡ false → ⊥
+      untied never = absurd (false≢true (sym never ∙ place_ties_itself metadata))
+
       within : (place : Place) (tie : Bool) → eq_by_cmp place_cmp place metadata ≡ tie → length (content_of other place) ≤ most_words
       within place true tie = subst (λ p. length (content_of other p) ≤ most_words) (sym (places_equal place metadata tie)) few
       within place false tie = subst (λ (ws : List ℕ). length ws ≤ most_words) (same place (λ here. untied (subst (λ p. eq_by_cmp place_cmp p metadata ≡ false) here tie))) (is.within place)
-
-      untied : eq_by_cmp place_cmp metadata metadata ≡ false → ⊥
-      untied never = absurd (false≢true (sym never ∙ place_ties_itself metadata))
 
 -- ---- a label more
 
 has_not : (n : ℕ) (labels : List ℕ) → AllByRecursion (λ m. m < n) labels → has labels n ≡ false
 has_not n [] all = refl
-has_not n (m ∷ ms) all = apart (eqb m n) refl
+has_not n (m ∷ ms) all = apart (eqb m n) refl (has_not n ms all.1)
   where
-    apart : (b : Bool) → eqb m n ≡ b → has (m ∷ ms) n ≡ false
-    apart true same = let is = eqb-true m n same in absurd (omega (arith, is, all.0))
-    apart false other = rw other (has_not n ms all.1)
+    apart : (b : Bool) → eqb m n ≡ b → has ms n ≡ false → has (m ∷ ms) n ≡ false
+    apart true same rest = let is = eqb-true m n same in absurd (omega (arith, is, all.0))
+    apart false other rest = rw other rest
 
 no_pairs : (shape : Shape) (place : Place) (n : ℕ) (vertices : Map ℕ Vertex) → AllByRecursion (λ entry. AllByRecursion (λ m. m < n) entry.1.labels) vertices
     → pairs_of_label shape vertices place n ≡ []

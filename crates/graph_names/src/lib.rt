@@ -1,8 +1,7 @@
 //! The calls that make labels and property types, on a store of a graph.
 #![tactic(auto)]
 
-mod new_label;
-mod new_type;
+mod calls;
 
-pub use new_label::new_label;
-pub use new_type::new_type;
+pub use calls::new_label::new_label;
+pub use calls::new_type::new_type;

@@ -1,5 +1,5 @@
 -- Whether a vertex is there, on a store of a graph.
-use Rattle.std.proofs.Common.{◌≡◌, ◌≢◌, ◌∙◌, ℕ, ◌%◌, ◌+◌, ◌<◌, ◌≤◌, Bool, true, false, cond, Option, Some, None, refl, sym, ap, subst, arith, ◌⊎◌, inl, inr}
+use Rattle.std.proofs.Common.{◌≡◌, ◌≢◌, ◌∙◌, ℕ, ◌/◌, ◌%◌, ◌+◌, ◌<◌, mod-lt, ◌≤◌, Bool, true, false, cond, Option, Some, None, refl, sym, ap, subst, arith, ◌⊎◌, inl, inr}
 use Rattle.std.specs.Prelude.{is_some}
 use Rattle.std.specs.List.{list_any}
 use Rattle.std.specs.Ordering.{is_eq, nat_cmp}
@@ -42,13 +42,13 @@ pub bucket_reached : {shape : Shape} (g : Graph) (id : ℕ) {contents : Contents
 bucket_reached {shape} g id is place ranges here = record {
   rank = home_of shape id;
   object = Reserved (bucket_of shape id).block;
-  on = inl (mod-lt id shape.ranks (omega (arith, ranges.ranks)), within);
+  on = inl (mod-lt id {m = shape.ranks} (omega (arith, ranges.ranks)), within);
   here = sym here;
-  near = inr (inr (id, inl refl, refl));
+  near = inr (inr (id, (0, omega arith, refl), refl));
 }
   where
     within : (bucket_of shape id).block < 1 + shape.buckets + shape.slots
-    within = let below = mod-lt (id / shape.ranks) shape.buckets (omega (arith, ranges.buckets)) in omega (arith, below)
+    within = let below = mod-lt (id / shape.ranks) {m = shape.buckets} (omega (arith, ranges.buckets)) in omega (arith, below)
 
 module _ {N : Type 0} {old new : StoreState N} {Makes : ℕ → Type 0} {id : ℕ} {found : Option Place} (ranges : IsInRange old.shape) (reaches : Reaches (IsBucketFor id old.shape) Makes old new)
     (finds : Finds id old new found) where

@@ -1,6 +1,6 @@
 //! The calls on a vertex, on a store of a graph.
 #![tactic(auto)]
 
-mod has_vertex;
+mod calls;
 
-pub use has_vertex::has_vertex;
+pub use calls::has_vertex::has_vertex;

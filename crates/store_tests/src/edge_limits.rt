@@ -309,7 +309,17 @@ fn make_and_fill<S: Store<Keeping>>(
 #[test]
 fn the_largest_edge_takes_no_more(rt: HostRuntime) -> Result<(), Fail> {
     let mut store = PlainStore::<Keeping>::new(rt.alloc(), Geometry::standard())?;
-    assert!(rt; matches!(make_and_fill(rt.alloc(), &mut store, 1_048_571), Ok(Some((true, false)))));
-    assert!(rt; matches!(make_and_fill(rt.alloc(), &mut store, 1_048_572), Ok(Some((false, true)))));
+    assert!(rt;
+        matches!(
+            make_and_fill(rt.alloc(), &mut store, 1_048_571),
+            Ok(Some((true, false)))
+        )
+    );
+    assert!(rt;
+        matches!(
+            make_and_fill(rt.alloc(), &mut store, 1_048_572),
+            Ok(Some((false, true)))
+        )
+    );
     Ok(())
 }

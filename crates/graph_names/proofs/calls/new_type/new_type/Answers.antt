@@ -1,7 +1,7 @@
 use Rattle.std.proofs.Common.{◌∙◌, subst}
 use Rattle.rma_layout.specs.Ranges.{IsInRange}
 use Rattle.graph_names.proofs.NameCalls.{type_applied, knows_names}
-use Rattle.graph_names.proofs.new_type.new_type.Goals as goal
+use Rattle.graph_names.proofs.calls.new_type.new_type.Goals as goal
 
 pub add_type-requires-clause-names : goal.add_type-requires-clause-names
 add_type-requires-clause-names g c = knows_names c.requires.stands

@@ -1,7 +1,7 @@
 use Rattle.std.proofs.Common.{◌∙◌, subst}
 use Rattle.rma_layout.specs.Ranges.{IsInRange}
 use Rattle.graph_names.proofs.NameCalls.{label_applied, knows_names}
-use Rattle.graph_names.proofs.new_label.new_label.Goals as goal
+use Rattle.graph_names.proofs.calls.new_label.new_label.Goals as goal
 
 pub add_label-requires-clause-names : goal.add_label-requires-clause-names
 add_label-requires-clause-names g c = knows_names c.requires.stands

@@ -1,0 +1,57 @@
+ghost use Rattle.std.specs.Prelude.{◌≡◌, OnOk};
+ghost use Rattle.object_store.specs.declared.phase.Phase.TheVariants.{Idle, Writing};
+ghost use Rattle.held_objects.specs.Knows.{Knows};
+ghost use Rattle.graph_law.specs.Calls.{Stands};
+
+use gdi_kinds::{Kind, Name, Reply};
+use graph_law::GraphLaw;
+use graph_names::{new_label, new_type};
+use graph_vertices::has_vertex;
+use object_store::{PlainStore, Store};
+use rma_layout::Geometry;
+use std::alloc::Global;
+use std::test::Fail;
+
+/// The replies to a label that is made twice, to a type, and to whether a vertex is there.
+#[derive(Debug, Drop)]
+struct Replies {
+    label: Reply,
+    again: Reply,
+    typed: Reply,
+    has: Reply,
+}
+
+fn name_and_ask<S: Store<GraphLaw>>(
+    alloc: Global,
+    store: &mut S,
+    name: &Name,
+) -> Result<Replies, S::Refused>
+    requires { (S.state store.old).phase ≡ Idle }
+{
+    store.begin(true)?;
+    let label = new_label(alloc, store, name)?;
+    let again = new_label(alloc, store, name)?;
+    let typed = new_type(alloc, store, name, Kind::Int, true)?;
+    let has = has_vertex(alloc, store, 5)?;
+    store.abort();
+    Ok(Replies {
+        label,
+        again,
+        typed,
+        has,
+    })
+}
+
+#[test]
+fn names_are_made_once(rt: HostRuntime) -> Result<(), Fail> {
+    let person = Name::of(b"Person").ok_or("a name")?;
+    let mut store = PlainStore::<GraphLaw>::new(rt.alloc(), Geometry::standard())?;
+    let Ok(replies) = name_and_ask(rt.alloc(), &mut store, &person) else {
+        return Err("refused".into());
+    };
+    assert!(rt; matches!(&replies.label, Reply::Done));
+    assert!(rt; matches!(&replies.again, Reply::Exists));
+    assert!(rt; matches!(&replies.typed, Reply::Done));
+    assert!(rt; matches!(&replies.has, Reply::No));
+    Ok(())
+}

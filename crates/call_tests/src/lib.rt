@@ -1,0 +1,5 @@
+//! Tests of the calls on a store of a graph.
+#![tactic(auto)]
+
+#[cfg(test)]
+mod calls;

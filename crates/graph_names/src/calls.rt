@@ -1,0 +1,2 @@
+pub(crate) mod new_label;
+pub(crate) mod new_type;
