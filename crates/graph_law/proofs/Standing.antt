@@ -1,13 +1,11 @@
 -- A store of a graph stays one.
-use Rattle.std.proofs.Common.{◌≡◌, List, [], refl, sym, subst}
-use Rattle.rma_layout.specs.Shape.{Shape}
+use Rattle.std.proofs.Common.{◌≡◌, [], refl, sym, subst}
 use Rattle.object_words.specs.Contents.{Contents, IsByRisingObject, overlay}
 use Rattle.gdi_kinds.specs.declared.call.Call.{Call}
 use Rattle.gdi_kinds.specs.declared.reply.Reply.{Reply}
 use Rattle.graph_model.specs.Calls.{graph_after_call}
 use Rattle.object_store.specs.State.{StoreState}
 use Rattle.object_store.specs.Sound.{StaysBegun}
-use Rattle.holder_codec.specs.Represents.{Represents}
 use Rattle.held_objects.specs.Knows.{Knows}
 use Rattle.held_objects.proofs.Knows.{knows_after}
 use Rattle.graph_law.specs.Calls.{AppliesCall, Stands}

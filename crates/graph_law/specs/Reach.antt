@@ -1,11 +1,11 @@
 -- Which objects of a graph's store a call may read and write.
-use Rattle.std.specs.Prelude.{◌≡◌, ◌≢◌, ℕ, ◌<◌, true, List, [], ◌∷◌, IsSomeAnd, ◌⊎◌}
+use Rattle.std.specs.Prelude.{◌≡◌, ℕ, ◌<◌, true, List, [], ◌∷◌, IsSomeAnd, ◌⊎◌}
 use Rattle.std.specs.List.{Contains}
 use Rattle.gdi_kinds.specs.declared.call.Call.{Call}
-use Rattle.gdi_kinds.specs.declared.call.Call.TheVariants.{NewLabel, NewType, Vertex, Has, DropVertex, Tag, Untag, Tags, Set, Add, Get, Unset, Props, Edge, UEdge, Cut, Target, ETag, EUntag, ETags, ESet, EAdd, EGet, EUnset, EProps, Edges, Near, Degree, Find, Hood, Levels, Parts, Scan, Vertices, Arcs}
+use Rattle.gdi_kinds.specs.declared.call.Call.TheVariants.{Vertex, Has, DropVertex, Tag, Untag, Tags, Set, Add, Get, Unset, Props, Edge, UEdge, Cut, Target, ETag, EUntag, ETags, ESet, EAdd, EGet, EUnset, EProps, Edges, Near, Degree, Find, Hood, Levels}
 use Rattle.rma_layout.specs.Shape.{Shape}
 use Rattle.rma_layout.specs.Placement.{Place, bucket_of}
-use Rattle.graph_model.specs.Graph.{Graph, edge_at, is_vertex, vertex_at}
+use Rattle.graph_model.specs.Graph.{Graph, edge_at, vertex_at}
 use Rattle.graph_model.specs.Capacity.{Object, Reserved, OfVertex, OfHeavyEdge}
 use Rattle.graph_model.specs.Calls.{graph_after_call}
 use Rattle.graph_model.specs.Lookups.{label_number}

@@ -1,5 +1,5 @@
 -- The calls on names do to a store what they do to the graph.
-use Rattle.std.proofs.Common.{◌≡◌, ◌≢◌, ◌∙◌, ℕ, suc, ◌+◌, ◌<◌, ◌≤◌, Bool, true, false, cond, List, [], ◌∷◌, ◌++◌, map, length, Some, None, refl, sym, ap, subst, arith, ◌⊎◌, inl, inr}
+use Rattle.std.proofs.Common.{◌≡◌, ◌≢◌, ◌∙◌, ℕ, suc, Bool, true, false, cond, List, [], ◌∷◌, ◌++◌, map, length, Some, None, refl, sym, ap, subst, arith, ◌⊎◌, inl, inr}
 use Rattle.std.specs.Prelude.{is_some}
 use Rattle.std.specs.List.{AllByRecursion}
 use Rattle.std.proofs.lemmas.List.{map-append}
@@ -17,14 +17,14 @@ use Rattle.object_words.specs.Blocks.{made_objects}
 use Rattle.object_words.proofs.Overlays.{content-overlay, put_over}
 use Rattle.graph_model.specs.Calls.{graph_after_call, reply_to, steps_of}
 use Rattle.graph_model.specs.Capacity.{Object, Reserved, OfVertex, OfHeavyEdge, is_object, make_of}
-use Rattle.graph_model.specs.Graph.{Edge, EdgeKey, Graph, Name, PropType, Vertex}
+use Rattle.graph_model.specs.Graph.{Graph, Name, PropType}
 use Rattle.graph_model.specs.Lookups.{label_number, type_number}
-use Rattle.graph_model.specs.Maps.{Map, place_where}
+use Rattle.graph_model.specs.Maps.{place_where}
 use Rattle.std.specs.Str.{bytes_eq}
 use Rattle.std.specs.Option.{option_map}
-use Rattle.graph_model.specs.Sizes.{is_too_large, most_words, words_of_names}
+use Rattle.graph_model.specs.Sizes.{is_too_large, words_of_names}
 use Rattle.graph_model.specs.Steps.{Answer, Step, ◌>>=◌, answer_of, leaves, refused_if}
-use Rattle.graph_model.specs.WellFormed.{EdgeFits, IsWellFormed, VertexFits}
+use Rattle.graph_model.specs.WellFormed.{IsWellFormed, VertexFits}
 use Rattle.graph_model.proofs.CallsKeepWellFormed as well
 use Rattle.graph_model.proofs.Entries.{All-filter, All-map}
 use Rattle.object_store.specs.State.{StoreState}
@@ -36,12 +36,11 @@ use Rattle.holder_codec.specs.Meta.{type_of}
 use Rattle.holder_codec.specs.Parts.{IsSameAt}
 use Rattle.holder_codec.specs.Represents.{HasIndex, Represents, heavy_edges}
 use Rattle.holder_codec.proofs.SizesAreLengths.{names_size}
-use Rattle.held_objects.specs.declared.change.Change.{Change}
 use Rattle.held_objects.specs.declared.change.Change.TheVariants.{Made, Refused}
 use Rattle.held_objects.specs.Knows.{Knows}
 use Rattle.held_objects.specs.Changes.{Changes, IfMade, any}
 use Rattle.held_objects.specs.Changes as held
-use Rattle.object_view.specs.View.{IsOn, place_in}
+use Rattle.object_view.specs.View.{IsOn}
 use Rattle.meta_tables.specs.Names.{HasNames, KnowsNames, names_of, size}
 use Rattle.meta_tables.specs.Names as meta
 use Rattle.meta_tables.proofs.Naming.{represents_names}

@@ -8,15 +8,15 @@ use Rattle.std.proofs.lemmas.Bool.{eqb-true, false≢true}
 use Rattle.std.specs.List.{AllByRecursion, filter, flat_map, range_with_len}
 use Rattle.std.proofs.lemmas.Grind.{flat_map-append}
 use Rattle.std.proofs.lemmas.List.FromFn.{map-range_with_len_more}
-use Rattle.rma_layout.specs.Shape.{Shape, reserved_blocks}
+use Rattle.rma_layout.specs.Shape.{Shape}
 use Rattle.rma_layout.specs.Placement.{IsReserved, Place, metadata, same_place, slot_of}
 use Rattle.object_words.specs.Contents.{Contents, content_of, place_cmp}
 use Rattle.object_words.proofs.Places.{place_ties_itself, places_equal}
 use Rattle.graph_model.specs.Maps.{Map, has, item_at}
 use Rattle.graph_model.specs.Graph.{Edge, EdgeKey, Graph, Name, PropType, Props, Vertex}
 use Rattle.graph_model.specs.Sizes.{most_words}
-use Rattle.graph_model.specs.WellFormed.{AreLabels, AreProps, AreValues, EdgeFits, IsWellFormed, VertexFits}
-use Rattle.graph_model.proofs.Entries.{All-filter, All-map}
+use Rattle.graph_model.specs.WellFormed.{AreValues, IsWellFormed, VertexFits}
+use Rattle.graph_model.proofs.Entries.{All-map}
 use Rattle.holder_codec.specs.Holders.{held_props, held_values, is_marked_in, pair_words, edge_words}
 use Rattle.holder_codec.specs.Parts.{IsSameAt}
 use Rattle.holder_codec.specs.Represents.{EdgeIsHeld, EdgeObjects, HasIndex, HasNames, IsBucket, IsRepresented, IsSlot, IsUnreserved, VertexIsHeld, VertexObjects, edge_object_of, heavy_edges, holder_of, object_of, pairs_of_label}

@@ -1,5 +1,5 @@
 -- Whether a vertex is there, on a store of a graph.
-use Rattle.std.proofs.Common.{◌≡◌, ◌≢◌, ◌∙◌, ℕ, ◌/◌, ◌%◌, ◌+◌, ◌<◌, mod-lt, ◌≤◌, Bool, true, false, cond, Option, Some, None, refl, sym, ap, subst, arith, ◌⊎◌, inl, inr}
+use Rattle.std.proofs.Common.{◌≡◌, ◌∙◌, ℕ, ◌/◌, ◌+◌, ◌<◌, mod-lt, cond, Option, Some, None, refl, sym, ap, arith, inl, inr}
 use Rattle.std.specs.Prelude.{is_some}
 use Rattle.std.specs.List.{list_any}
 use Rattle.std.specs.Ordering.{is_eq, nat_cmp}
@@ -10,8 +10,8 @@ use Rattle.gdi_kinds.specs.declared.reply.Reply.TheVariants.{No, Yes}
 use Rattle.rma_layout.specs.Shape.{Shape}
 use Rattle.rma_layout.specs.Ranges.{IsInRange}
 use Rattle.rma_layout.specs.Placement.{Place, bucket_of, home_of}
-use Rattle.object_words.specs.Contents.{Agrees, Contents, overlay, words_at}
-use Rattle.graph_model.specs.Capacity.{Reserved, make_of}
+use Rattle.object_words.specs.Contents.{Agrees, Contents, overlay}
+use Rattle.graph_model.specs.Capacity.{Reserved}
 use Rattle.graph_model.specs.Graph.{Graph, is_vertex}
 use Rattle.graph_model.specs.Maps.{at}
 use Rattle.holder_codec.specs.Represents.{Represents}

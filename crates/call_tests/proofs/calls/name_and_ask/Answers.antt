@@ -3,3 +3,27 @@ use Rattle.call_tests.proofs.calls.name_and_ask.Goals as goal
 
 pub new_label-requires-clause-stands : goal.new_label-requires-clause-stands
 new_label-requires-clause-stands g c = stands_first _ c.in_ok-begin.ensures.done.wrote_nothing
+
+pub new_label-requires-2-clause-stands : goal.new_label-requires-2-clause-stands
+new_label-requires-2-clause-stands g c =
+    let begun = stands_first _ c.in_ok-begin.ensures.done.wrote_nothing in
+    let label = c.in_ok-label.ensures in
+    stands_still label.works.went.reaches.stays label.works.went.keeps.sound.writes_in_order label.applied begun
+
+pub new_type-requires-clause-stands : goal.new_type-requires-clause-stands
+new_type-requires-clause-stands g c =
+    let begun = stands_first _ c.in_ok-begin.ensures.done.wrote_nothing in
+    let label = c.in_ok-label.ensures in
+    let after_label = stands_still label.works.went.reaches.stays label.works.went.keeps.sound.writes_in_order label.applied begun in
+    let again = c.in_ok-again.ensures in
+    stands_still again.works.went.reaches.stays again.works.went.keeps.sound.writes_in_order again.applied after_label
+
+pub has_vertex-requires-clause-stands : goal.has_vertex-requires-clause-stands
+has_vertex-requires-clause-stands g c =
+    let begun = stands_first _ c.in_ok-begin.ensures.done.wrote_nothing in
+    let label = c.in_ok-label.ensures in
+    let after_label = stands_still label.works.went.reaches.stays label.works.went.keeps.sound.writes_in_order label.applied begun in
+    let again = c.in_ok-again.ensures in
+    let after_again = stands_still again.works.went.reaches.stays again.works.went.keeps.sound.writes_in_order again.applied after_label in
+    let typed = c.in_ok-typed.ensures in
+    stands_still typed.works.went.reaches.stays typed.works.went.keeps.sound.writes_in_order typed.applied after_again

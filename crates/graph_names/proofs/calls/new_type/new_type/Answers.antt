@@ -1,4 +1,4 @@
-use Rattle.std.proofs.Common.{◌∙◌, subst}
+use Rattle.std.proofs.Common.{subst}
 use Rattle.rma_layout.specs.Ranges.{IsInRange}
 use Rattle.graph_names.proofs.NameCalls.{type_applied, knows_names}
 use Rattle.graph_names.proofs.calls.new_type.new_type.Goals as goal
