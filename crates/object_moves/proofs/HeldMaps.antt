@@ -1,12 +1,14 @@
 -- The map of held objects does what locks do, and that of noted chains what chains do.
-use Rattle.std.proofs.Common.{◌≡◌, ℕ, cond, List, [], ◌∷◌, refl, sym, ap, ◌∙◌, Option, Some, None}
+use Rattle.std.proofs.Common.{◌≡◌, ◌≢◌, ℕ, Bool, true, false, cond, List, [], ◌∷◌, refl, sym, ap, ◌∙◌, Option, Some, None}
 use Rattle.std.specs.Ordering.{nat_cmp}
 use Rattle.std.specs.Map.{lookup}
 use Rattle.std.specs.BTreeMap.{insert_entry, is_at}
 use Rattle.rma_layout.specs.Placement.{Place, same_place}
 use Rattle.object_words.specs.Chains.{place_of}
+use Rattle.window_rule.specs.ContentsHold.{Lasts}
 use Rattle.window_rule.specs.Locks.{hold_of}
 use Rattle.object_moves.specs.declared.held.Mode.{Mode}
+use Rattle.object_moves.specs.declared.held.Mode.TheVariants as mode
 use Rattle.object_moves.specs.Held.{hold_as, hold_in, locks_in}
 use Rattle.object_moves.specs.Noted.{blocks_of, chains_in}
 use Rattle.object_moves.proofs.NamedMaps.{named_at, named_at-insert_entry, named_at-lookup, seen_as}
@@ -18,6 +20,20 @@ hold_of-named (one ∷ more) object = ap (cond (same_place (place_of one.0) obje
 hold_seen : (mode : Option Mode) → seen_as hold_as mode ≡ hold_in mode
 hold_seen None = refl
 hold_seen (Some mode) = refl
+
+-- each of them lasts
+pub locks_last : (entries : List (ℕ × Mode)) (object : Place) → hold_of (locks_in entries) object ≢ None → Lasts (hold_of (locks_in entries) object)
+locks_last [] object held = absurd (held refl)
+locks_last (one ∷ more) object held = by_cases (same_place (place_of one.0) object) held
+  where
+    lasts_as : (mode : Mode) → Lasts (Some (hold_as mode))
+    lasts_as mode.Shared = tt
+    lasts_as mode.Marked = tt
+
+    by_cases : (here : Bool) → cond here (Some (hold_as one.1)) (hold_of (locks_in more) object) ≢ None
+        → Lasts (cond here (Some (hold_as one.1)) (hold_of (locks_in more) object))
+    by_cases true h = lasts_as one.1
+    by_cases false h = locks_last more object h
 
 pub hold_of-locks_in : (entries : List (ℕ × Mode)) (raw : ℕ)
     → hold_of (locks_in entries) (place_of raw) ≡ hold_in (lookup (is_at (nat_cmp raw)) entries)

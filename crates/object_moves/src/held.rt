@@ -1,6 +1,7 @@
-ghost use Rattle.std.specs.Prelude.{◌≡◌, [], ◌∷◌, None, Some, IfNone, IfSome, OnErr, OnOk, if◌then◌else◌};
+ghost use Rattle.std.specs.Prelude.{◌≡◌, ◌≢◌, [], ◌∷◌, None, Some, IfNone, IfSome, OnErr, OnOk, if◌then◌else◌};
 ghost use Rattle.rma_layout.specs.Placement.{Place, same_place};
 ghost use Rattle.object_words.specs.Chains.{place_of};
+ghost use Rattle.window_rule.specs.ContentsHold.{Lasts};
 ghost use Rattle.window_rule.specs.Locks.{hold_of};
 ghost use Rattle.object_moves.specs.Held.{hold_as, hold_in};
 
@@ -51,6 +52,11 @@ impl HeldObjects {
     {
         self.modes.get(&key(at)).copied()
     }
+
+    /// Does nothing, and tells that each of the locks lasts.
+    pub fn keeps_lasting(&self)
+        ensures { (object : Place) → hold_of self.now object ≢ None → Lasts (hold_of self.now object) }
+    {}
 
     /// Notes how an object is locked. After a refusal nothing is changed, and none comes where the object is noted already.
     pub fn put(&mut self, at: DPtr, mode: Mode) -> Result<(), NoMemory>

@@ -10,6 +10,6 @@ mod storing;
 
 pub use held::{HeldObjects, Mode};
 pub use leaving::leave_all;
-pub use loading::{Blocks, Loaded, load, load_chain};
+pub use loading::{Blocks, Loaded, chain_blocks, load, load_chain};
 pub use noted::NotedChains;
 pub use rewriting::rewrite;

@@ -93,7 +93,7 @@ fn measure<L: Law>(
 }
 
 /// How many blocks an object with so many words has: none where it isn't reserved and has no words.
-pub(crate) fn chain_blocks(geometry: &Geometry, at: DPtr, length: u64) -> u64
+pub fn chain_blocks(geometry: &Geometry, at: DPtr, length: u64) -> u64
     requires { IsInRange geometry.now }
     ensures { result ≡ blocks_asked geometry.now at length }
 {

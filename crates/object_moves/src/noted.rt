@@ -1,10 +1,10 @@
-ghost use Rattle.std.specs.Prelude.{◌≡◌, [], None, Some, OnErr, OnOk, is_some, if◌then◌else◌};
+ghost use Rattle.std.specs.Prelude.{◌≡◌, [], ◌∷◌, None, Some, IfNone, IfSome, OnErr, OnOk, is_some, if◌then◌else◌};
 ghost use Rattle.std.specs.Option.{option_copied};
 ghost use Rattle.rma_layout.specs.Placement.{Place, same_place};
 ghost use Rattle.object_moves.specs.Noted.{blocks_of};
 
 use crate::held::key;
-use crate::loading::Blocks;
+use crate::loading::{Blocks, pointer};
 use gdi_kinds::NoMemory;
 use rma_layout::DPtr;
 use std::alloc::Global;
@@ -58,6 +58,16 @@ impl NotedChains {
     {
         self.blocks.insert(key(at), blocks)?;
         Ok(())
+    }
+
+    /// Takes the first object out, with its blocks.
+    pub fn pop_first(&mut self) -> Option<(DPtr, Blocks)>
+        ensures some { IfSome result (λ one. self.old ≡ one ∷ self.new) }
+        ensures once { IfSome result (λ one. blocks_of self.new one.0 ≡ None) }
+        ensures none { IfNone result ((self.old ≡ []) × (self.new ≡ [])) }
+    {
+        let (raw, blocks) = self.blocks.pop_first()?;
+        Some((pointer(raw), blocks))
     }
 
     /// Takes all objects out.

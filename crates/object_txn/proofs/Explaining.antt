@@ -13,6 +13,7 @@ use Rattle.window_rule.specs.Trails.{Follows}
 use Rattle.object_store.specs.Sound.{StaysExplained}
 use Rattle.object_txn.specs.declared.refused.TxnRefused.{TxnRefused}
 use Rattle.object_txn.specs.declared.refused.TxnRefused.TheVariants.{Busy, GateBusy, Empty, PoolBusy, Worn, NoMemory}
+use Rattle.object_txn.specs.Committing.{Recalls}
 use Rattle.object_txn.specs.Causes.{Explains, Gained, HasLooked, HasMissed, WasRefused}
 
 abbrev gained_later : {X : Type 0} (before mid now : List X) → Gained before mid → IsPrefix mid now → Gained before now
@@ -36,12 +37,23 @@ module _ (rank : ℕ) where
   missed_behind : (xs ys : List Miss) → missed ys ≤ missed (xs ++ ys)
   missed_behind xs ys = omega (arith, sum_by-append one xs ys)
 
+-- a rank that has gone on recalls
+pub recalls_by : {N : Type 0} (before after : View N) → Follows before after → Recalls before after
+recalls_by before after follows = record {
+  rights = follows.rights;
+  seen = follows.seen;
+  refusals = follows.refusals;
+  misses = follows.misses;
+  looks = follows.looks;
+  takes = follows.takes;
+}
+
 module _ {N : Type 0} (shape : Shape) where
-  not_alone_before : (before after : View N) → Follows before after → ¬ IsAlone shape after → ¬ IsAlone shape before
+  not_alone_before : (before after : View N) → Recalls before after → ¬ IsAlone shape after → ¬ IsAlone shape before
   not_alone_before before after follows not alone =
       not (λ rank h. subst (λ (rights : List ℕ). 0 < right_count rank rights) (sym follows.rights) (alone rank h))
 
-  refused_later : (first mid last : View N) (target : Target) (want : Want) (word : ℕ) → Follows mid last
+  refused_later : (first mid last : View N) (target : Target) (want : Want) (word : ℕ) → Recalls mid last
       → WasRefused shape target want word first mid → WasRefused shape target want word first last
   refused_later first mid last target want word follows was = record {
     gained = gained_later first.refusals mid.refusals last.refusals was.gained follows.refusals;
@@ -50,7 +62,7 @@ module _ {N : Type 0} (shape : Shape) where
     not_alone = was.not_alone;
   }
 
-  refused_earlier : (first mid last : View N) (target : Target) (want : Want) (word : ℕ) → Follows first mid
+  refused_earlier : (first mid last : View N) (target : Target) (want : Want) (word : ℕ) → Recalls first mid
       → WasRefused shape target want word mid last → WasRefused shape target want word first last
   refused_earlier first mid last target want word follows was = record {
     gained = gained_earlier first.refusals mid.refusals last.refusals follows.refusals was.gained;
@@ -59,21 +71,21 @@ module _ {N : Type 0} (shape : Shape) where
     not_alone = not_alone_before first mid follows was.not_alone;
   }
 
-  looked_later : (first mid last : View N) (rank head : ℕ) → Follows mid last → HasLooked rank head first mid → HasLooked rank head first last
+  looked_later : (first mid last : View N) (rank head : ℕ) → Recalls mid last → HasLooked rank head first mid → HasLooked rank head first last
   looked_later first mid last rank head follows was = record {
     gained = gained_later first.looks mid.looks last.looks was.gained follows.looks;
     own_blocks = was.own_blocks;
     this = Contains-append_left was.gained.more follows.looks.0 _ was.this;
   }
 
-  looked_earlier : (first mid last : View N) (rank head : ℕ) → Follows first mid → HasLooked rank head mid last → HasLooked rank head first last
+  looked_earlier : (first mid last : View N) (rank head : ℕ) → Recalls first mid → HasLooked rank head mid last → HasLooked rank head first last
   looked_earlier first mid last rank head follows was = record {
     gained = gained_earlier first.looks mid.looks last.looks follows.looks was.gained;
     own_blocks = was.own_blocks;
     this = Contains-append_right follows.looks.0 was.gained.more _ was.this;
   }
 
-  missed_later : (first mid last : View N) (rank loaded seen : ℕ) → Follows mid last → HasMissed shape rank loaded seen first mid → HasMissed shape rank loaded seen first last
+  missed_later : (first mid last : View N) (rank loaded seen : ℕ) → Recalls mid last → HasMissed shape rank loaded seen first mid → HasMissed shape rank loaded seen first last
   missed_later first mid last rank loaded seen follows was = record {
     gained = gained_later first.misses mid.misses last.misses was.gained follows.misses;
     this = Contains-append_left was.gained.more follows.misses.0 _ was.this;
@@ -81,7 +93,7 @@ module _ {N : Type 0} (shape : Shape) where
     not_alone = was.not_alone;
   }
 
-  missed_earlier : (first mid last : View N) (rank loaded seen : ℕ) → Follows first mid → HasMissed shape rank loaded seen mid last → HasMissed shape rank loaded seen first last
+  missed_earlier : (first mid last : View N) (rank loaded seen : ℕ) → Recalls first mid → HasMissed shape rank loaded seen mid last → HasMissed shape rank loaded seen first last
   missed_earlier first mid last rank loaded seen follows was = record {
     gained = gained_earlier first.misses mid.misses last.misses follows.misses was.gained;
     this = Contains-append_right follows.misses.0 was.gained.more _ was.this;
@@ -89,24 +101,30 @@ module _ {N : Type 0} (shape : Shape) where
     not_alone = not_alone_before first mid follows was.not_alone;
   }
 
+  pub recalls_later : (first mid last : View N) (why : TxnRefused) → Recalls mid last → Explains shape first mid why → Explains shape first last why
+  recalls_later first mid last (Busy object want word) follows was = refused_later first mid last (OfObject object) want word follows was
+  recalls_later first mid last (GateBusy word) follows was = refused_later first mid last OfGate Writer word follows was
+  recalls_later first mid last (Empty rank head) follows was = (looked_later first mid last rank head follows was.0, was.1, was.2)
+  recalls_later first mid last (PoolBusy rank loaded seen) follows was = missed_later first mid last rank loaded seen follows was
+  recalls_later first mid last (Worn rank head) follows was = (looked_later first mid last rank head follows was.0, was.1)
+  recalls_later first mid last NoMemory follows was = tt
+
+  pub recalls_earlier : (first mid last : View N) (why : TxnRefused) → Recalls first mid → Explains shape mid last why → Explains shape first last why
+  recalls_earlier first mid last (Busy object want word) follows was = refused_earlier first mid last (OfObject object) want word follows was
+  recalls_earlier first mid last (GateBusy word) follows was = refused_earlier first mid last OfGate Writer word follows was
+  recalls_earlier first mid last (Empty rank head) follows was = (looked_earlier first mid last rank head follows was.0, was.1, was.2)
+  recalls_earlier first mid last (PoolBusy rank loaded seen) follows was = missed_earlier first mid last rank loaded seen follows was
+  recalls_earlier first mid last (Worn rank head) follows was = (looked_earlier first mid last rank head follows was.0, was.1)
+  recalls_earlier first mid last NoMemory follows was = tt
+
   pub explains_later : (first mid last : View N) (why : TxnRefused) → Follows mid last → Explains shape first mid why → Explains shape first last why
-  explains_later first mid last (Busy object want word) follows was = refused_later first mid last (OfObject object) want word follows was
-  explains_later first mid last (GateBusy word) follows was = refused_later first mid last OfGate Writer word follows was
-  explains_later first mid last (Empty rank head) follows was = (looked_later first mid last rank head follows was.0, was.1, was.2)
-  explains_later first mid last (PoolBusy rank loaded seen) follows was = missed_later first mid last rank loaded seen follows was
-  explains_later first mid last (Worn rank head) follows was = (looked_later first mid last rank head follows was.0, was.1)
-  explains_later first mid last NoMemory follows was = tt
+  explains_later first mid last why follows was = recalls_later first mid last why (recalls_by mid last follows) was
 
   pub explains_earlier : (first mid last : View N) (why : TxnRefused) → Follows first mid → Explains shape mid last why → Explains shape first last why
-  explains_earlier first mid last (Busy object want word) follows was = refused_earlier first mid last (OfObject object) want word follows was
-  explains_earlier first mid last (GateBusy word) follows was = refused_earlier first mid last OfGate Writer word follows was
-  explains_earlier first mid last (Empty rank head) follows was = (looked_earlier first mid last rank head follows was.0, was.1, was.2)
-  explains_earlier first mid last (PoolBusy rank loaded seen) follows was = missed_earlier first mid last rank loaded seen follows was
-  explains_earlier first mid last (Worn rank head) follows was = (looked_earlier first mid last rank head follows was.0, was.1)
-  explains_earlier first mid last NoMemory follows was = tt
+  explains_earlier first mid last why follows was = recalls_earlier first mid last why (recalls_by first mid follows) was
 
-  pub explained_still : (before after : View N) → Follows before after → StaysExplained {S = View N} {R = TxnRefused} (Explains shape) before after
+  pub explained_still : (before after : View N) → Recalls before after → StaysExplained {S = View N} {R = TxnRefused} (Explains shape) before after
   explained_still before after follows = record {
-    later = λ first why was. explains_later first before after why follows was;
-    earlier = λ last why was. explains_earlier before after last why follows was;
+    later = λ first why was. recalls_later first before after why follows was;
+    earlier = λ last why was. recalls_earlier before after last why follows was;
   }

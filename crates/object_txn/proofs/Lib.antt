@@ -10,3 +10,7 @@ pub mod NotedFacts
 pub mod PlanFacts
 pub mod RoomFacts
 pub mod StampFacts
+pub mod PlanningFacts
+pub mod CommitFacts
+pub mod SurplusFacts
+pub mod EntryFacts

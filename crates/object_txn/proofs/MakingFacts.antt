@@ -34,7 +34,7 @@ use Rattle.object_txn.specs.Tied.{HasTaken, HasWritten, MayBeWritten, words_in}
 use Rattle.object_txn.specs.declared.txn.Txn.{Txn}
 
 -- an object with words has a block
-some_blocks : (shape : Shape) (object : Place) (w : ℕ) (ws : List ℕ) → 0 < chain_length shape object (w ∷ ws)
+pub some_blocks : (shape : Shape) (object : Place) (w : ℕ) (ws : List ℕ) → 0 < chain_length shape object (w ∷ ws)
 some_blocks shape object w ws = elim (is_reserved shape object.block) as
     (λ b. 0 < cond (not b && false) 0 (blocks_for (length (w ∷ ws)) (shape.words - 1))) [ true ↦ omega arith | false ↦ omega arith ]
 

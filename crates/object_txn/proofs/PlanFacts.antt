@@ -2,6 +2,7 @@
 use Rattle.std.proofs.Common.{◌≡◌, ◌≢◌, ℕ, ◌+◌, ◌<◌, ◌≤◌, cond, List, [], ◌∷◌, ◌++◌, drop, length, get_or, suc, ◌⊎◌, inl, inr, refl, sym, ap, ◌∙◌, subst, arith, Option, Some, None}
 use Rattle.std.specs.Option.{unwrap_or}
 use Rattle.std.proofs.Math.Seq.{drop-append_seam, drop-cons}
+use Rattle.std.proofs.lemmas.List.{take-append-drop}
 use Rattle.std.specs.List.{AllByRecursion}
 use Rattle.rma_layout.specs.Shape.{Shape}
 use Rattle.rma_layout.specs.Placement.{Place, same_place}
@@ -14,6 +15,7 @@ use Rattle.window_rule.specs.Detach.{MayDetach}
 use Rattle.window_rule.specs.Dirty.{dirt_of}
 use Rattle.window_rule.specs.Known.{known_of, without_known}
 use Rattle.window_rule.specs.Locks.{hold_of}
+use Rattle.window_rule.specs.Objects.{chain_length}
 use Rattle.window_rule.specs.Partition.{places_of, times}
 use Rattle.window_rule.specs.Spares.{IsNoSpare}
 use Rattle.window_rule.specs.StampsHold.{opened_of}
@@ -24,7 +26,7 @@ use Rattle.fabric.specs.Window.{RankModel}
 use Rattle.object_moves.specs.Rewrites.{MayRewrite, Rewrites, chain_of_first}
 use Rattle.object_moves.proofs.RewriteFacts.{times-take}
 use Rattle.object_txn.specs.declared.plan.Plan.{Plan}
-use Rattle.object_txn.specs.Plans.{ArePlanned, AreWritten, IsReady, OnlyStored, objects_in, taken_for}
+use Rattle.object_txn.specs.Plans.{ArePlanned, AreWritten, IsReady, OnlyStored, objects_in, surplus_in, taken_for}
 
 -- the extras are the blocks behind those of the chain
 pub extras_are : {N : Type 0} (shape : Shape) (object : Place) (blocks : List Place) (kept : ℕ) (old words : List ℕ) (rank : RankModel N)
@@ -116,6 +118,22 @@ module _ {N : Type 0} (shape : Shape) (reads writes : Contents) (before after : 
       let known = ap (λ (k : Known). times block k.chain) same_known in
       omega (arith, was block, told.exchanged block, counted, behind, fewer, known)
 
+  -- what is left over of it is the rank's own
+  pub surplus_less : (all more : List Plan) → ((block : Place) → times block (surplus_in all) + taken_for block (plan ∷ more)
+      ≤ times block (places_of before.view.private) + times block (surplus_in (plan ∷ more)))
+      → (block : Place) → times block (surplus_in all) + taken_for block more ≤ times block (places_of after.view.private) + times block (surplus_in more)
+  surplus_less all more was block =
+      let counted : times block plan.blocks ≡ times block ready.may.known.chain + times block ready.may.extras =
+      ap (times block) ready.may.are ∙ times-append block ready.may.known.chain ready.may.extras in
+      let behind = ap (times block) (extras_are shape plan.at plan.blocks plan.kept (content_of reads plan.at) (content_of writes plan.at) before ready.may) in
+      let split : times block plan.blocks ≡ times block chain + times block (drop plan.used plan.blocks) =
+      sym (ap (times block) (take-append-drop (chain_length shape plan.at (content_of writes plan.at)) plan.blocks))
+      ∙ (times-append block chain (drop (chain_length shape plan.at (content_of writes plan.at)) plan.blocks)
+      ∙ ap (λ n. times block chain + times block (drop n plan.blocks)) (sym ready.used_is)) in
+      let left = times-append block (drop plan.used plan.blocks) (surplus_in more) in
+      let known = ap (λ (k : Known). times block k.chain) same_known in
+      omega (arith, was block, told.exchanged block, counted, behind, split, left, known)
+
   ready_still : (other : Plan) → other.at ≢ plan.at → ((block : Place) → times block (drop other.kept other.blocks) ≤ times block (places_of after.view.private))
       → IsReady shape reads writes before other → IsReady shape reads writes after other
   ready_still other ne there was = record {
@@ -136,6 +154,7 @@ module _ {N : Type 0} (shape : Shape) (reads writes : Contents) (before after : 
       );
       no_spare = λ block h. no_spare block (was.may.no_spare block h);
     };
+    used_is = was.used_is;
     some_block = was.some_block;
     written = was.written;
     object = was.object;

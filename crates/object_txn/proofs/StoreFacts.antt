@@ -22,11 +22,15 @@ use Rattle.window_rule.proofs.WholeOwn.{own_is_all}
 use Rattle.fabric.specs.Window.{WindowModel, RankModel}
 use Rattle.object_store.specs.declared.phase.Phase.TheVariants.{Reading, Writing}
 use Rattle.object_store.specs.Sound.{Continues, IsSound, KeepsCommits}
+use Rattle.object_store.specs.Refusals.{RefusesCommit}
 use Rattle.object_store.specs.Calls.{Aborts, Begins, Finishes, MakesObject, MayWrite, ReadsObject, WritesObject}
 use Rattle.object_txn.specs.declared.txn.Txn.{Txn}
-use Rattle.object_txn.specs.Moves.{Makes, Reads}
-use Rattle.object_txn.specs.State.{has_no_spare, window_state}
+use Rattle.object_txn.specs.declared.refused.TxnRefused.{TxnRefused}
+use Rattle.object_txn.specs.Committing.{Recalls}
+use Rattle.object_txn.specs.Moves.{Makes, NamesRank, Reads}
+use Rattle.object_txn.specs.State.{has_no_spare, named_by, said_by, window_state}
 use Rattle.object_txn.specs.Tied.{IsNone, IsTied, MayBeWritten, words_in}
+use Rattle.object_txn.proofs.Explaining.{recalls_by}
 use Rattle.object_txn.proofs.Maps.{words_at_other}
 
 right_at : (rank : ℕ) (rights : List ℕ) (k : ℕ) → k < length rights → slice_index_or rights k rank ≡ rank → 0 < right_count rank rights
@@ -68,29 +72,46 @@ module _ {N : Type 0} (fits : Shape → Entry N → Type 0) (window : WindowMode
         (record { begins = ([], append-nil rank.view.seen); own = is.own; rest = tt });
   }
 
+  pub recalled : (before after : RankModel N) (old new : Txn) → Recalls before.view after.view
+      → IsTrueView fits window.shape after.view → IsTied window after new → (old.phase ≢ Writing → after.spares ≡ before.spares)
+      → Continues fits (window_state window before old) (window_state window after new)
+  recalled before after old new recalls is tied spares = record {
+    shape = refl;
+    base = ap (λ rights. record { table = window.id; rights = rights }) recalls.rights;
+    counts_blocks = refl;
+    seen = recalls.seen;
+    changes = prefix-refl [];
+    clean = λ which was. elim which [
+      | inl some ↦ absurd (cc some)
+      | inr quiet ↦ ap has_no_spare (spares quiet) ∙ was
+    ];
+    takes = recalls.takes;
+    lock_free = λ _ h. absurd (omega (arith, h));
+    sound = sound after new is tied;
+  }
+
   module _ (before after : RankModel N) (old new : Txn) (follows : Follows before.view after.view) where
     pub continues : IsTrueView fits window.shape after.view → IsTied window after new → (old.phase ≢ Writing → after.spares ≡ before.spares)
         → Continues fits (window_state window before old) (window_state window after new)
-    continues is tied spares = record {
-      shape = refl;
-      base = ap (λ rights. record { table = window.id; rights = rights }) follows.rights;
-      counts_blocks = refl;
-      seen = follows.seen;
-      changes = prefix-refl [];
-      clean = λ which was. elim which [
-        | inl some ↦ absurd (cc some)
-        | inr quiet ↦ ap has_no_spare (spares quiet) ∙ was
-      ];
-      takes = follows.takes;
-      lock_free = λ _ h. absurd (omega (arith, h));
-      sound = sound after new is tied;
-    }
+    continues is tied spares = recalled before after old new (recalls_by before.view after.view follows) is tied spares
 
     keeps_commits : KeepsCommits (window_state window before old) (window_state window after new)
     keeps_commits = record { own = follows.own; allowance = follows.allowance; seen = λ some. absurd (cc some) }
 
     pub aborts : IsNone new → Aborts (window_state window before old) (window_state window after new)
     aborts none = record { commits = keeps_commits; ended = record { phase = none.phase; reads = none.reads; writes = none.writes } }
+
+    pub refuses_commit : (home : ℕ) (why : TxnRefused) → NamesRank home (named_by why) → IsNone new
+        → RefusesCommit (window_state window before old) (window_state window after new) (said_by why)
+    refuses_commit home why names none = record {
+      aborted = aborts none;
+      names = elim names [
+        | inl nothing ↦ inl nothing
+        | inr rank ↦ inr (home, rank)
+      ];
+      told = λ some. absurd (cc some);
+      passing = refl;
+    }
 
     pub finishes : (place : ℕ) → IsNone new → length after.view.seen ≡ place → Agrees old.reads (store_after after.view.seen)
         → Finishes (window_state window before old) (window_state window after new) place

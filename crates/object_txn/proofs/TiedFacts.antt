@@ -1,5 +1,5 @@
 -- A transaction stays tied to its rank.
-use Rattle.std.proofs.Common.{◌≡◌, ◌≢◌, ℕ, ◌≤◌, Bool, cond, List, [], ◌∷◌, inl, inr, refl, sym, ap, ◌∙◌, subst, arith, Some, None}
+use Rattle.std.proofs.Common.{◌≡◌, ◌≢◌, ℕ, ◌≤◌, ◌^◌, Bool, cond, List, [], ◌∷◌, length, inl, inr, refl, sym, ap, ◌∙◌, subst, arith, Some, None}
 use Rattle.rma_layout.specs.Shape.{Shape}
 use Rattle.rma_layout.specs.Placement.{Place}
 use Rattle.object_words.specs.Contents.{Contents, IsByRisingObject, content_of, with_words, words_at}
@@ -83,6 +83,7 @@ module _ {N : Type 0} (window : WindowModel) (before after : RankModel N) where
         ]
       ];
       may = tied.writes.may;
+      few_words = tied.writes.few_words;
       in_order = tied.writes.in_order;
     };
     taken = taken_as_before (rest_of before.view) (rest_of after.view) (ap rest_of locked.view) window.shape before.spares after.spares txn.taken.items spares tied.taken;
@@ -167,6 +168,7 @@ tied_none window rank txn together free closed none = record {
   writes = record {
     marked = λ object words e. absurd (cc (sym (unwritten object) ∙ e));
     may = λ object words e. absurd (cc (sym (unwritten object) ∙ e));
+    few_words = λ object words e. absurd (cc (sym (unwritten object) ∙ e));
     in_order = subst IsByRisingObject (sym none.writes) refl;
   };
   taken = record {
@@ -204,6 +206,9 @@ tied_beside window rank txn chains tied = record {
   phase = record { reads = tied.phase.reads; writes = tied.phase.writes; taken = tied.phase.taken; held = tied.phase.held };
 }
 
+some_words : (one other : List ℕ) → Some one ≡ Some other → one ≡ other
+some_words one other e = cc e
+
 -- what was read of a locked object is noted
 pub tied_noted : {N : Type 0} (window : WindowModel) (rank : RankModel N) (txn : Txn) (reads : Contents) (object : Place) (words : List ℕ)
     → reads ≡ with_words txn.reads object words → words_in (known_of rank.view.known object) ≡ Some words → Lasts (hold_of rank.view.locks object)
@@ -227,6 +232,7 @@ tied_noted {N} window rank txn reads object words is known lasts begun unwritten
       writes = record {
         marked = tied.writes.marked;
         may = λ other was e unreserved none. may_still other (λ here. cc (sym unwritten ∙ (ap (words_at txn.writes) (sym here) ∙ e))) (tied.writes.may other was e unreserved none);
+        few_words = tied.writes.few_words;
         in_order = tied.writes.in_order;
       };
       taken = tied.taken;
@@ -240,9 +246,9 @@ tied_noted {N} window rank txn reads object words is known lasts begun unwritten
 -- what is written to a marked object is noted
 pub tied_written : {N : Type 0} (window : WindowModel) (rank : RankModel N) (txn : Txn) (writes : Contents) (object : Place) (words : List ℕ)
     → writes ≡ with_words txn.writes object words → hold_of txn.held object ≡ Some Marked
-    → MayBeWritten window.shape txn.reads txn.taken.items object → txn.phase ≢ Idle
+    → MayBeWritten window.shape txn.reads txn.taken.items object → length words ≤ 2 ^ 20 → txn.phase ≢ Idle
     → IsTied window rank txn → IsTied window rank (record txn { writes = writes })
-tied_written {N} window rank txn writes object words is marked may begun tied =
+tied_written {N} window rank txn writes object words is marked may few begun tied =
     subst (λ (w : Contents). IsTied window rank (record txn { writes = w })) (sym is) (record {
       together = tied.together;
       locks = tied.locks;
@@ -255,6 +261,11 @@ tied_written {N} window rank txn writes object words is marked may begun tied =
         may = λ other was e. elim (place_cases other object) [
           | inl here ↦ subst (MayBeWritten window.shape txn.reads txn.taken.items) (sym here) may
           | inr differ ↦ tied.writes.may other was (sym (words_at_other txn.writes object words other differ) ∙ e)
+        ];
+        few_words = λ other was e. elim (place_cases other object) [
+          | inl here ↦ subst (λ (w : List ℕ). length w ≤ 2 ^ 20) (some_words words was (sym (words_at_here txn.writes object words)
+              ∙ (ap (words_at (with_words txn.writes object words)) (sym here) ∙ e))) few
+          | inr differ ↦ tied.writes.few_words other was (sym (words_at_other txn.writes object words other differ) ∙ e)
         ];
         in_order = in_order-with_words txn.writes object words tied.writes.in_order;
       };
@@ -280,6 +291,7 @@ tied_taken {N} window before after txn new same only taken more writing is tied 
       writes = record {
         marked = tied.writes.marked;
         may = λ other was e unreserved none. tied.writes.may other was e unreserved (omega (arith, more other, none));
+        few_words = tied.writes.few_words;
         in_order = tied.writes.in_order;
       };
       taken = taken;

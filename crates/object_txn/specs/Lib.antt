@@ -4,3 +4,5 @@ pub mod Causes
 pub mod Moves
 pub mod Endings
 pub mod Plans
+pub mod Planning
+pub mod Committing

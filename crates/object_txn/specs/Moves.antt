@@ -44,6 +44,10 @@ pub record Reads {N : Type 0} (object : Place) (after : View N) (old new : Txn) 
   pub stay : (other : Place) (was : List ℕ) → words_at old.reads other ≡ Some was
       → words_at new.reads other ≡ Some was
 
+-- a refusal names nothing, or this rank
+abbrev pub NamesRank : ℕ → Named → Type 0
+NamesRank rank names = (names ≡ names_nothing) ⊎ (names ≡ names_rank rank)
+
 -- a refusal names nothing, the home rank, or an object of it
 abbrev pub NamesHome : ℕ → Named → Type 0
 NamesHome home names = (names ≡ names_nothing) ⊎ (names ≡ names_rank home)

@@ -1,5 +1,5 @@
 -- What becomes of the objects that a transaction has written.
-use Rattle.std.specs.Prelude.{◌≡◌, ◌≢◌, ℕ, ◌+◌, ◌<◌, ◌≤◌, List, [], ◌∷◌, drop, length, Bool, false, Some, None, ◌⊎◌}
+use Rattle.std.specs.Prelude.{◌≡◌, ◌≢◌, ℕ, ◌+◌, ◌<◌, ◌≤◌, List, [], ◌∷◌, ◌++◌, drop, length, Bool, true, false, Some, None, ◌⊎◌}
 use Rattle.std.specs.List.{AllByRecursion}
 use Rattle.rma_layout.specs.Shape.{Shape}
 use Rattle.rma_layout.specs.Placement.{Place, IsBlock}
@@ -9,6 +9,7 @@ use Rattle.window_rule.specs.View.{View, Dirt, Locks, Marked}
 use Rattle.window_rule.specs.Commit.{WasRead, attached_of, need_of}
 use Rattle.window_rule.specs.Dirty.{dirt_of}
 use Rattle.window_rule.specs.Locks.{hold_of}
+use Rattle.window_rule.specs.Objects.{chain_length}
 use Rattle.window_rule.specs.Partition.{places_of, times}
 use Rattle.window_rule.specs.RoomHolds.{asked_at, count_on, kept_at, sum_below}
 use Rattle.window_rule.specs.StampsHold.{opened_of}
@@ -19,6 +20,11 @@ use Rattle.object_txn.specs.declared.plan.Plan.{Plan}
 abbrev pub objects_in : List Plan → List Place
 objects_in [] = []
 objects_in (plan ∷ more) = plan.at ∷ objects_in more
+
+-- the blocks that their objects no longer need
+abbrev pub surplus_in : List Plan → List Place
+surplus_in [] = []
+surplus_in (plan ∷ more) = drop plan.used plan.blocks ++ surplus_in more
 
 -- how often a block was taken for these
 abbrev pub taken_for : Place → List Plan → ℕ
@@ -35,6 +41,7 @@ pub record IsReady {N : Type 0} (shape : Shape) (reads writes : Contents) (rank 
     (plan : Plan) : Type 0 where
   pub may : MayRewrite shape plan.at plan.blocks plan.kept (content_of reads plan.at)
       (content_of writes plan.at) rank
+  pub used_is : plan.used ≡ chain_length shape plan.at (content_of writes plan.at)
   pub some_block : 0 < length plan.blocks
   pub written : words_at writes plan.at ≢ None
   pub object : IsBlock shape plan.at
@@ -91,4 +98,11 @@ pub record AreOpened (all left : List Plan) (opened : List (Place × Bool)) : Ty
       → times object (objects_in left) ≡ 0 → opened_of opened object ≡ Some false
   pub others : (object : Place)
       → (times object (objects_in all) ≡ 0) ⊎ (0 < times object (objects_in left))
+      → opened_of opened object ≡ None
+
+-- the objects that are left are open, with a write of them committed, and no other is
+pub record AreToClose (left : List Plan) (opened : List (Place × Bool)) : Type 0 where
+  pub left_open : (object : Place) → 0 < times object (objects_in left)
+      → opened_of opened object ≡ Some true
+  pub others : (object : Place) → times object (objects_in left) ≡ 0
       → opened_of opened object ≡ None

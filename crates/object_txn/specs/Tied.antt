@@ -1,5 +1,5 @@
 -- What ties a transaction to the rank that makes it.
-use Rattle.std.specs.Prelude.{◌≡◌, ◌≢◌, ℕ, ◌<◌, ◌≤◌, List, [], Option, Some, None}
+use Rattle.std.specs.Prelude.{◌≡◌, ◌≢◌, ℕ, ◌<◌, ◌≤◌, ◌^◌, List, [], length, Option, Some, None}
 use Rattle.rma_layout.specs.Shape.{Shape}
 use Rattle.rma_layout.specs.Placement.{Place, IsBlock, IsReserved}
 use Rattle.object_words.specs.Contents.{Contents, IsByRisingObject, content_of, words_at}
@@ -52,13 +52,15 @@ pub record HasChains (known : List (Place × Known)) (held : Locks) (chains : Ch
   pub of_writes : (object : Place) (words : List ℕ) → words_at writes object ≡ Some words
       → blocks_of chains object ≢ None
 
--- what was written is marked, and may be written
+-- what was written is marked, and may be written. It is at most 1,048,576 words
 pub record HasWritten (shape : Shape) (held : Locks) (reads writes : Contents)
     (taken : List Place) : Type 0 where
   pub marked : (object : Place) (words : List ℕ) → words_at writes object ≡ Some words
       → hold_of held object ≡ Some Marked
   pub may : (object : Place) (words : List ℕ) → words_at writes object ≡ Some words
       → MayBeWritten shape reads taken object
+  pub few_words : (object : Place) (words : List ℕ) → words_at writes object ≡ Some words
+      → length words ≤ 2 ^ 20
   pub in_order : IsByRisingObject writes
 
 -- the blocks that were taken are the rank's own and no spares, each once

@@ -40,7 +40,7 @@ pub(crate) fn end_all<L: Law>(window: &Window<L>, rank: &mut Rank<L>, txn: &mut 
 }
 
 /// Leaves the place in the gate of a transaction in this phase, which has nothing detached.
-fn leave_gate<L: Law>(window: &Window<L>, rank: &mut Rank<L>, phase: Phase)
+pub(crate) fn leave_gate<L: Law>(window: &Window<L>, rank: &mut Rank<L>, phase: Phase)
     requires window { rank.old.window ≡ window.now }
     requires gate { rank.old.view.gate ≡ gate_of phase }
     requires clean { rank.old.view.dirty ≡ [] }

@@ -1,11 +1,13 @@
 //! Transactions on objects over a window.
 #![tactic(auto)]
 
+mod committing;
 mod ending;
 mod locking;
 mod making;
 mod placing;
 mod plan;
+mod planning;
 mod reading;
 mod refused;
 mod stamping;

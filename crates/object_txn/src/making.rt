@@ -14,7 +14,7 @@ ghost use Rattle.object_store.specs.declared.phase.Phase.TheVariants.{Writing};
 ghost use Rattle.object_store.specs.State.{names_nothing, names_rank};
 ghost use Rattle.object_txn.specs.State.{named_by};
 ghost use Rattle.object_txn.specs.Causes.{Explains};
-ghost use Rattle.object_txn.specs.Moves.{Makes, NamesHome, Takes};
+ghost use Rattle.object_txn.specs.Moves.{Makes, NamesHome, NamesRank, Takes};
 ghost use Rattle.object_txn.specs.Tied.{HasTaken, IsTied, KnowsChains, words_in};
 
 use crate::locking::mark;
@@ -60,7 +60,7 @@ pub(crate) fn make<L: Law>(
 }
 
 /// Takes a block of a home rank, and notes it.
-fn take_one<L: Law>(
+pub(crate) fn take_one<L: Law>(
     window: &Window<L>,
     rank: &mut Rank<L>,
     taken: &mut Vec<DPtr>,
@@ -74,7 +74,7 @@ fn take_one<L: Law>(
     ensures noted { IfOk result (λ block. Takes window.now.shape home block rank.new.view taken.old.items taken.new.items) }
     ensures unnoted { OnErr result (taken.new.items ≡ taken.old.items) }
     ensures only { OnlyTaken rank.old.view rank.new.view }
-    ensures names { IfErr result (λ why. NamesHome home (named_by why)) }
+    ensures names { IfErr result (λ why. NamesRank home (named_by why)) }
     ensures refused { IfErr result (λ why. Explains window.now.shape rank.old.view rank.new.view why) }
     ensures follows { Follows rank.old.view rank.new.view }
 {

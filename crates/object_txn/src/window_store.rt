@@ -3,23 +3,27 @@ ghost use Rattle.rma_layout.specs.declared.limits.TheConstants.{MOST_WORDS};
 ghost use Rattle.rma_layout.specs.Placement.{IsBlock};
 ghost use Rattle.object_store.specs.declared.phase.Phase.TheVariants.{Idle, Reading, Writing};
 ghost use Rattle.object_store.specs.Sound.{Continues, IsSound};
-ghost use Rattle.object_store.specs.Calls.{Aborts, Begins, Finishes, MakesObject, MayWrite, ReadsObject, WritesObject};
-ghost use Rattle.object_store.specs.Refusals.{RefusesAccess, RefusesBegin, RefusesFresh};
+ghost use Rattle.object_store.specs.State.{next_entry};
+ghost use Rattle.object_store.specs.Calls.{Aborts, Begins, Commits, Finishes, MakesObject, MayWrite, ReadsObject, WritesObject};
+ghost use Rattle.object_store.specs.Refusals.{RefusesAccess, RefusesBegin, RefusesCommit, RefusesFresh};
 ghost use Rattle.window_rule.specs.Trails.{Follows};
 ghost use Rattle.object_txn.specs.Causes.{Explains};
+ghost use Rattle.object_txn.specs.Committing.{Recalls};
 ghost use Rattle.object_txn.specs.Endings.{GivesBack};
 ghost use Rattle.object_txn.specs.State.{said_by, window_state};
 ghost use Rattle.object_txn.specs.Tied.{IsFree, IsNone, IsTied, KnowsChains};
 
+use crate::committing::{leave_committed, write_planned};
 use crate::ending::end_all;
 use crate::making::make;
+use crate::planning::plan_writes;
 use crate::reading::read_at;
 use crate::refused::TxnRefused;
 use crate::txn::Txn;
 use crate::writing::write_at;
 use fabric::{Rank, Window};
 use object_store::Phase;
-use object_words::{Law, Words};
+use object_words::{Carries, Law, Words};
 use rma_layout::{DPtr, Geometry};
 use std::alloc::Global;
 
@@ -180,6 +184,39 @@ impl<'a, L: Law> WindowStore<'a, L> {
             Ok(at) => {
                 self.rank.truths(self.window);
                 Ok(at)
+            }
+            Err(why) => {
+                end_all(self.window, &mut self.rank, &mut self.txn);
+                Err(why)
+            }
+        }
+    }
+
+    /// Makes what was read and written the next entry of the history, and answers its number. All memory and all blocks are
+    /// found before the first object is changed, so nothing is refused after that. Blocks that are left over are given back.
+    pub fn commit<C: Carries<L>>(&mut self, note: &C) -> Result<u64, TxnRefused>
+        requires begun { self.old.txn.phase ≡ Writing }
+        requires fits { L.fits (window_state self.old.window.now self.old.rank self.old.txn).shape (next_entry (window_state self.old.window.now self.old.rank self.old.txn) (C.note note.now)) }
+        requires allowed { 0 < (window_state self.old.window.now self.old.rank self.old.txn).allowance }
+        ensures keeps { Continues L.fits (window_state self.old.window.now self.old.rank self.old.txn) (window_state self.new.window.now self.new.rank self.new.txn) }
+        ensures done { IfOk result (λ number. Commits (C.note note.now) (window_state self.old.window.now self.old.rank self.old.txn) (window_state self.new.window.now self.new.rank self.new.txn) number) }
+        ensures refused { IfErr result (λ why. RefusesCommit (window_state self.old.window.now self.old.rank self.old.txn) (window_state self.new.window.now self.new.rank self.new.txn) (said_by why)) }
+        ensures explained { IfErr result (λ why. Explains self.old.window.now.shape self.old.rank.view self.new.rank.view why) }
+        ensures free { IsFree self.new.rank.view }
+        ensures recalls { Recalls self.old.rank.view self.new.rank.view }
+    {
+        match plan_writes(self.window, &mut self.rank, &mut self.txn, self.alloc) {
+            Ok(plans) => {
+                let number = write_planned(
+                    self.window,
+                    &mut self.rank,
+                    &self.txn,
+                    self.alloc,
+                    &plans,
+                    note,
+                );
+                leave_committed(self.window, &mut self.rank, &mut self.txn, &plans);
+                Ok(number)
             }
             Err(why) => {
                 end_all(self.window, &mut self.rank, &mut self.txn);

@@ -1,4 +1,4 @@
-ghost use Rattle.std.specs.Prelude.{◌≡◌, ◌≢◌, ◌⊎◌, [], None, Some, IfErr, OnOk};
+ghost use Rattle.std.specs.Prelude.{◌≡◌, ◌≢◌, ◌≤◌, ◌^◌, ◌⊎◌, [], length, None, Some, IfErr, OnOk};
 ghost use Rattle.rma_layout.specs.Placement.{IsBlock, IsReserved};
 ghost use Rattle.object_words.specs.Contents.{content_of, with_words, words_at};
 ghost use Rattle.window_rule.specs.Locks.{hold_of};
@@ -33,6 +33,7 @@ pub(crate) fn write_at<L: Law>(
 ) -> Result<(), TxnRefused>
     requires object { IsBlock window.now.shape at }
     requires begun { txn.old.phase ≡ Writing }
+    requires few { length words ≤ 2 ^ 20 }
     requires may { MayBeWritten window.now.shape txn.old.reads txn.old.taken.items at }
     requires tied { IsTied window.now rank.old txn.old }
     requires chains { KnowsChains rank.old.view txn.old }

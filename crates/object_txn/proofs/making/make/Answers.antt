@@ -61,7 +61,7 @@ returns-clause-tied g c =
     let begun : c.args.txn.now.phase ≢ Idle = λ idle. cc (sym c.requires.begun ∙ idle) in
     tied_written c.args.window.now c.meet.new.rank (record c.args.txn.now { held = c.mark.new.held; taken = c.take_one.new.taken; chains = c.put.new.self; reads = c.put-2.new.self }) c.put-3.new.self at []
     (c.in_ok-put-3.ensures.ok ∙ ap (with_words c.args.txn.now.writes at) c.new-3.ensures) c.in_default.ensures.marked
-    (made_may c.args.window.now.shape c.put-2.new.self c.args.txn.now.taken.items c.take_one.new.taken.items at c.in_ok-at.ensures.noted.noted) begun
+    (made_may c.args.window.now.shape c.put-2.new.self c.args.txn.now.taken.items c.take_one.new.taken.items at c.in_ok-at.ensures.noted.noted) (omega arith) begun
     (tied_noted c.args.window.now c.meet.new.rank (record c.args.txn.now { held = c.mark.new.held; taken = c.take_one.new.taken; chains = c.put.new.self }) c.put-2.new.self at []
     (c.in_ok-put-2.ensures.ok ∙ ap (with_words c.args.txn.now.reads at) c.new-2.ensures) c.meet.ensures.known
     (subst Lasts (sym (ap (λ (l : Locks). hold_of l at) c.meet.ensures.locks ∙ (c.in_default.ensures.locks.same at ∙ c.in_default.ensures.marked))) tt)

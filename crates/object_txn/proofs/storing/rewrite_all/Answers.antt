@@ -1,10 +1,11 @@
-use Rattle.std.proofs.Common.{◌+◌, List, ℕ, ◌∷◌, drop, arith, refl, sym, ap, ◌∙◌, subst}
+use Rattle.std.proofs.Common.{◌+◌, ◌≤◌, List, ℕ, ◌∷◌, drop, arith, refl, sym, ap, ◌∙◌, subst}
 use Rattle.object_words.specs.Contents.{content_of}
+use Rattle.window_rule.specs.Partition.{places_of, times}
 use Rattle.window_rule.proofs.Trails.{follows_trans}
 use Rattle.object_moves.specs.Rewrites.{MayRewrite, Rewrites, chain_of_first}
 use Rattle.object_txn.specs.declared.plan.Plan.{Plan}
-use Rattle.object_txn.specs.Plans.{ArePlanned, AreWritten, HasRoom}
-use Rattle.object_txn.proofs.PlanFacts.{only_stored, planned_less, plans_left, stands_there, written_more}
+use Rattle.object_txn.specs.Plans.{ArePlanned, AreWritten, HasRoom, surplus_in, taken_for}
+use Rattle.object_txn.proofs.PlanFacts.{only_stored, planned_less, plans_left, stands_there, surplus_less, written_more}
 use Rattle.object_txn.proofs.RoomFacts.{room_less}
 use Rattle.object_txn.proofs.storing.rewrite_all.Goals as goal
 
@@ -49,5 +50,9 @@ loop-plan-preserved g c =
       planned = planned_less shape reads writes was now plan ready told c.rewrite.ensures.no_spare more planned;
       written = written_more shape plan.at chain words was.view now.view told reads writes more plan refl (stands_there writes plan.at ready.written) ready.may.detach.clean written;
       room = room_less shape reads writes was now plan ready told more (subst (λ (l : List Plan). HasRoom shape l was.view) left old.room);
+      surplus = surplus_less shape reads writes was now plan ready told c.rewrite.ensures.no_spare c.args.plans.now more
+          (λ block. subst (λ (l : List Plan). times block (surplus_in c.args.plans.now) + taken_for block l ≤ times block (places_of was.view.private) + times block (surplus_in l)) left
+          (old.surplus block));
+      no_spare = λ block none. c.rewrite.ensures.no_spare block (old.no_spare block none);
       follows = follows_trans c.args.rank.now.view was.view now.view old.follows c.rewrite.ensures.follows;
     }

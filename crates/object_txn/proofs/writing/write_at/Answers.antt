@@ -32,7 +32,7 @@ returns-clause-tied g c =
     tied_written c.args.window.now c.note_chain.new.rank c.note_chain.new.txn c.put.new.self c.args.at c.args.words c.in_ok-put.ensures.ok
     (ap (λ (t : Txn). hold_of t.held c.args.at) same ∙ c.in_ok-mark.ensures.marked)
     (subst (λ (t : Txn). MayBeWritten c.args.window.now.shape t.reads t.taken.items c.args.at) (sym same) c.requires.may)
-    (λ idle. cc (sym c.requires.begun ∙ (sym (ap (λ (t : Txn). t.phase) same) ∙ idle))) c.note_chain.ensures.tied
+    c.requires.few (λ idle. cc (sym c.requires.begun ∙ (sym (ap (λ (t : Txn). t.phase) same) ∙ idle))) c.note_chain.ensures.tied
 
 pub returns-clause-chains : goal.returns-clause-chains
 returns-clause-chains g c =

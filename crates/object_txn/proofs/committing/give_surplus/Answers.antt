@@ -1,0 +1,42 @@
+use Rattle.std.proofs.Common.{rules, ◌+◌, List, ◌∷◌, drop, ap, ◌∙◌, subst}
+use Rattle.rma_layout.specs.Placement.{Place}
+use Rattle.window_rule.specs.View.{View}
+use Rattle.window_rule.specs.Locks.{hold_of}
+use Rattle.window_rule.proofs.Trails.{follows_trans}
+use Rattle.object_txn.specs.declared.plan.Plan.{Plan}
+use Rattle.object_txn.specs.Plans.{surplus_in}
+use Rattle.object_txn.specs.Tied.{HasTaken}
+use Rattle.object_txn.proofs.EndingFacts.{blocks-then}
+use Rattle.object_txn.proofs.PlanFacts.{plans_left}
+use Rattle.object_txn.proofs.SurplusFacts.{first_taken, rest_taken}
+use Rattle.object_txn.proofs.committing.give_surplus.Goals as goal
+
+pub give_behind-requires-clause-behind : goal.give_behind-requires-clause-behind
+give_behind-requires-clause-behind g c =
+    let shape = c.args.window.now.shape in
+    let rank = c.loop-plan.rank in
+    let plan = c.plan-item.result in
+    let more = drop (c.loop-plan.plan-index + 1) c.args.plans.now in
+    let left = plans_left c.args.plans.now c.loop-plan.plan-index plan c.loop-plan-test.true c.plan-item.is in
+    first_taken shape (drop plan.used plan.blocks) (surplus_in more) rank
+    (subst (λ (l : List Plan). HasTaken shape rank.view.private rank.spares (surplus_in l)) left c.loop-plan.invariant.surplus)
+
+pub give_behind-requires-clause-locks : goal.give_behind-requires-clause-locks
+give_behind-requires-clause-locks g c = λ object.
+    ap (λ (v : View g.row.L-Note.Denot). hold_of v.locks object) c.loop-plan.invariant.view ∙ c.requires.locks object
+
+pub loop-plan-preserved : goal.loop-plan-preserved
+loop-plan-preserved g c =
+    let shape = c.args.window.now.shape in
+    let was = c.loop-plan.rank in
+    let now = c.give_behind.new.rank in
+    let plan = c.plan-item.result in
+    let old = c.loop-plan.invariant in
+    let more = drop (c.loop-plan.plan-index + 1) c.args.plans.now in
+    let left = plans_left c.args.plans.now c.loop-plan.plan-index plan c.loop-plan-test.true c.plan-item.is in record {
+      window = c.give_behind.ensures.window ∙ old.window;
+      surplus = rest_taken shape (drop plan.used plan.blocks) (surplus_in more) was now c.give_behind.ensures.stay
+          (subst (λ (l : List Plan). HasTaken shape was.view.private was.spares (surplus_in l)) left old.surplus);
+      view = blocks-then c.args.rank.now.view was.view now.view old.view c.give_behind.ensures.view;
+      follows = follows_trans c.args.rank.now.view was.view now.view old.follows c.give_behind.ensures.follows;
+    }

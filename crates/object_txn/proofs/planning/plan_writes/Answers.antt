@@ -1,0 +1,41 @@
+use Rattle.std.proofs.Common.{◌≡◌, ◌≢◌, ◌∙◌, List, ◌∷◌, refl, sym, ap, subst, Some, None}
+use Rattle.rma_layout.specs.Placement.{Place}
+use Rattle.window_rule.specs.View.{View, Known}
+use Rattle.object_txn.specs.declared.txn.Txn.{Txn}
+use Rattle.object_txn.specs.Planning.{AreAllPlans}
+use Rattle.object_txn.specs.Tied.{IsTied}
+use Rattle.object_txn.proofs.PlanningFacts.{has_own_block, noted_by}
+use Rattle.object_txn.proofs.TiedFacts.{tied_beside, tied_same, tied_taken}
+use Rattle.object_txn.proofs.planning.plan_writes.Goals as goal
+
+pub plan_all-requires-clause-noted : goal.plan_all-requires-clause-noted
+plan_all-requires-clause-noted g c = noted_by c.args.rank.now.view c.args.txn.now c.requires.chains
+
+pub plan_all-requires-clause-own : goal.plan_all-requires-clause-own
+plan_all-requires-clause-own g c =
+    has_own_block g.L.Law.fits c.args.window.now c.truths.new.self c.args.txn.now c.truths.ensures.truths
+    (tied_same c.args.window.now c.args.rank.now c.truths.new.self c.args.txn.now c.truths.ensures.window c.truths.ensures.spares c.truths.ensures.view c.requires.tied)
+
+pub returns-in_err-plans-clause-tied : goal.returns-in_err-plans-clause-tied
+returns-in_err-plans-clause-tied g c =
+    let txn : Txn = record c.args.txn.now { chains = c.plan_all.new.chains } in
+    tied_taken c.args.window.now c.truths.new.self c.plan_all.new.rank txn (record txn { taken = c.plan_all.new.taken })
+    c.plan_all.ensures.window c.plan_all.ensures.only c.plan_all.ensures.taken c.plan_all.ensures.more c.requires.begun refl
+    (tied_beside c.args.window.now c.truths.new.self c.args.txn.now c.plan_all.new.chains
+    (tied_same c.args.window.now c.args.rank.now c.truths.new.self c.args.txn.now c.truths.ensures.window c.truths.ensures.spares c.truths.ensures.view c.requires.tied))
+
+pub returns-clause-tied : goal.returns-clause-tied
+returns-clause-tied g c =
+    let txn : Txn = record c.args.txn.now { chains = c.plan_all.new.chains } in
+    let new : Txn = record txn { taken = c.plan_all.new.taken } in
+    tied_same c.args.window.now c.plan_all.new.rank c.truths-2.new.self new c.truths-2.ensures.window c.truths-2.ensures.spares c.truths-2.ensures.view
+    (tied_taken c.args.window.now c.truths.new.self c.plan_all.new.rank txn new
+    c.plan_all.ensures.window c.plan_all.ensures.only c.plan_all.ensures.taken c.plan_all.ensures.more c.requires.begun refl
+    (tied_beside c.args.window.now c.truths.new.self c.args.txn.now c.plan_all.new.chains
+    (tied_same c.args.window.now c.args.rank.now c.truths.new.self c.args.txn.now c.truths.ensures.window c.truths.ensures.spares c.truths.ensures.view c.requires.tied)))
+
+pub returns-clause-plans : goal.returns-clause-plans
+returns-clause-plans g c =
+    subst (λ (known : List (Place × Known)). AreAllPlans c.args.window.now.shape c.args.txn.now.writes known c.plan_all.new.taken.items c.in_ok-plans.plans.items)
+    (sym (ap (λ (v : View g.row.L-Note.Denot). v.known) c.truths-2.ensures.view ∙ ap (λ (v : View g.row.L-Note.Denot). v.known) c.plan_all.ensures.only))
+    c.in_ok-plans.ensures.plans

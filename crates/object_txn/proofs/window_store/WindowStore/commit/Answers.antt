@@ -1,0 +1,73 @@
+use Rattle.std.proofs.Common.{rules, ◌≡◌, ◌∙◌, List, ℕ, sym, ap, subst}
+use Rattle.window_rule.specs.View.{View}
+use Rattle.window_rule.specs.Trails.{Follows}
+use Rattle.window_rule.proofs.Trails.{follows_trans}
+use Rattle.object_txn.specs.declared.txn.Txn.{Txn}
+use Rattle.object_txn.specs.Tied.{IsTied}
+use Rattle.object_txn.proofs.EntryFacts.{commits, entry_same, recalls_all}
+use Rattle.object_txn.proofs.Explaining.{explains_later, recalls_by}
+use Rattle.object_txn.proofs.StoreFacts.{continues, recalled, refuses_commit}
+use Rattle.object_txn.proofs.window_store.WindowStore.commit.Goals as goal
+
+pub returns-in-Err-clause-explained : goal.returns-in-Err-clause-explained
+returns-in-Err-clause-explained g c =
+    let self = c.args.self.now in
+    explains_later self.window.now.shape self.rank.view c.plan_writes.new.rank.view c.end_all.new.rank.view c.in-Err.why
+    c.end_all.ensures.follows c.in-Err.ensures.refused
+
+pub returns-in-Err-clause-keeps : goal.returns-in-Err-clause-keeps
+returns-in-Err-clause-keeps g c =
+    let self = c.args.self.now in
+    continues g.L.Law.fits self.window.now self.rank c.end_all.new.rank self.txn c.end_all.new.txn
+    (follows_trans self.rank.view c.plan_writes.new.rank.view c.end_all.new.rank.view c.plan_writes.ensures.follows c.end_all.ensures.follows)
+    c.end_all.ensures.truths c.end_all.ensures.tied (λ quiet. absurd (quiet c.requires.begun))
+
+pub returns-in-Err-clause-recalls : goal.returns-in-Err-clause-recalls
+returns-in-Err-clause-recalls g c =
+    let self = c.args.self.now in
+    recalls_by self.rank.view c.end_all.new.rank.view
+    (follows_trans self.rank.view c.plan_writes.new.rank.view c.end_all.new.rank.view c.plan_writes.ensures.follows c.end_all.ensures.follows)
+
+pub returns-in-Err-clause-refused : goal.returns-in-Err-clause-refused
+returns-in-Err-clause-refused g c =
+    let self = c.args.self.now in
+    let names = c.in-Err.ensures.names in
+    refuses_commit g.L.Law.fits self.window.now self.rank c.end_all.new.rank self.txn c.end_all.new.txn
+    (follows_trans self.rank.view c.plan_writes.new.rank.view c.end_all.new.rank.view c.plan_writes.ensures.follows c.end_all.ensures.follows)
+    names.0 c.in-Err.why names.1 c.end_all.ensures.ended
+
+pub write_planned-requires-clause-fits : goal.write_planned-requires-clause-fits
+write_planned-requires-clause-fits g c =
+    let self = c.args.self.now in
+    let same = c.plan_writes.ensures.same in
+    subst (g.L.Law.fits self.window.now.shape) (sym (entry_same self.window.now self.rank c.plan_writes.new.rank self.txn c.plan_writes.new.txn _ c.plan_writes.ensures.follows
+    (ap (λ (t : Txn). t.reads) same) (ap (λ (t : Txn). t.writes) same))) c.requires.fits
+
+pub returns-in-Ok-clause-done : goal.returns-in-Ok-clause-done
+returns-in-Ok-clause-done g c =
+    let self = c.args.self.now in
+    let same = c.plan_writes.ensures.same in
+    commits self.window.now self.rank c.plan_writes.new.rank c.write_planned-number.new.rank c.leave_committed.new.rank self.txn c.leave_committed.new.txn _ c.write_planned-number.result _
+    (entry_same self.window.now self.rank c.plan_writes.new.rank self.txn c.plan_writes.new.txn _ c.plan_writes.ensures.follows
+    (ap (λ (t : Txn). t.reads) same) (ap (λ (t : Txn). t.writes) same))
+    c.plan_writes.ensures.follows c.write_planned-number.ensures.entry c.leave_committed.ensures.follows c.leave_committed.ensures.seen c.leave_committed.ensures.ended c.requires.allowed
+
+pub returns-in-Ok-clause-recalls : goal.returns-in-Ok-clause-recalls
+returns-in-Ok-clause-recalls g c =
+    let self = c.args.self.now in
+    let same = c.plan_writes.ensures.same in
+    recalls_all self.window.now self.rank c.plan_writes.new.rank c.write_planned-number.new.rank c.leave_committed.new.rank self.txn c.leave_committed.new.txn _ c.write_planned-number.result _
+    (entry_same self.window.now self.rank c.plan_writes.new.rank self.txn c.plan_writes.new.txn _ c.plan_writes.ensures.follows
+    (ap (λ (t : Txn). t.reads) same) (ap (λ (t : Txn). t.writes) same))
+    c.plan_writes.ensures.follows c.write_planned-number.ensures.entry c.leave_committed.ensures.follows c.leave_committed.ensures.seen
+
+pub returns-in-Ok-clause-keeps : goal.returns-in-Ok-clause-keeps
+returns-in-Ok-clause-keeps g c =
+    let self = c.args.self.now in
+    let same = c.plan_writes.ensures.same in
+    recalled g.L.Law.fits self.window.now self.rank c.leave_committed.new.rank self.txn c.leave_committed.new.txn
+    (recalls_all self.window.now self.rank c.plan_writes.new.rank c.write_planned-number.new.rank c.leave_committed.new.rank self.txn c.leave_committed.new.txn _ c.write_planned-number.result _
+    (entry_same self.window.now self.rank c.plan_writes.new.rank self.txn c.plan_writes.new.txn _ c.plan_writes.ensures.follows
+    (ap (λ (t : Txn). t.reads) same) (ap (λ (t : Txn). t.writes) same))
+    c.plan_writes.ensures.follows c.write_planned-number.ensures.entry c.leave_committed.ensures.follows c.leave_committed.ensures.seen)
+    c.leave_committed.ensures.truths c.leave_committed.ensures.tied (λ quiet. absurd (quiet c.requires.begun))
