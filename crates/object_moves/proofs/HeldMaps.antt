@@ -24,16 +24,16 @@ hold_seen (Some mode) = refl
 -- each of them lasts
 pub locks_last : (entries : List (ℕ × Mode)) (object : Place) → hold_of (locks_in entries) object ≢ None → Lasts (hold_of (locks_in entries) object)
 locks_last [] object held = absurd (held refl)
-locks_last (one ∷ more) object held = by_cases (same_place (place_of one.0) object) held
+locks_last (one ∷ more) object held = by_cases (same_place (place_of one.0) object) (λ h. locks_last more object h) held
   where
     lasts_as : (mode : Mode) → Lasts (Some (hold_as mode))
     lasts_as mode.Shared = tt
     lasts_as mode.Marked = tt
 
-    by_cases : (here : Bool) → cond here (Some (hold_as one.1)) (hold_of (locks_in more) object) ≢ None
+    by_cases : (here : Bool) → (hold_of (locks_in more) object ≢ None → Lasts (hold_of (locks_in more) object)) → cond here (Some (hold_as one.1)) (hold_of (locks_in more) object) ≢ None
         → Lasts (cond here (Some (hold_as one.1)) (hold_of (locks_in more) object))
-    by_cases true h = lasts_as one.1
-    by_cases false h = locks_last more object h
+    by_cases true rest h = lasts_as one.1
+    by_cases false rest h = rest h
 
 pub hold_of-locks_in : (entries : List (ℕ × Mode)) (raw : ℕ)
     → hold_of (locks_in entries) (place_of raw) ≡ hold_in (lookup (is_at (nat_cmp raw)) entries)

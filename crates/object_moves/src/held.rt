@@ -56,7 +56,9 @@ impl HeldObjects {
     /// Does nothing, and tells that each of the locks lasts.
     pub fn keeps_lasting(&self)
         ensures { (object : Place) → hold_of self.now object ≢ None → Lasts (hold_of self.now object) }
-    {}
+    {
+        let _modes = &self.modes;
+    }
 
     /// Notes how an object is locked. After a refusal nothing is changed, and none comes where the object is noted already.
     pub fn put(&mut self, at: DPtr, mode: Mode) -> Result<(), NoMemory>

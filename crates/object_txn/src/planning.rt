@@ -1,4 +1,4 @@
-ghost use Rattle.std.specs.Prelude.{◌≡◌, ◌≢◌, ◌<◌, ◌≤◌, ◌⊎◌, ℕ, List, [], ◌++◌, length, Some, None, IfErr, IfOk, OnErr, OnOk};
+ghost use Rattle.std.specs.Prelude.{◌≡◌, ◌≢◌, ◌<◌, ◌≤◌, ◌⊎◌, ℕ, List, [], ◌∷◌, ◌++◌, length, Some, None, IfErr, IfOk, OnErr, OnOk};
 ghost use Rattle.rma_layout.specs.Placement.{IsBlock, Place};
 ghost use Rattle.object_words.specs.Contents.{words_at};
 ghost use Rattle.window_rule.specs.Known.{known_of};
@@ -118,8 +118,16 @@ fn plan_next<L: Law>(
 {
     if let Some(words) = writes.get(at) {
         let plan = plan_one(window, rank, taken, at, blocks, words.len() as u64)?;
-        plans.push(plan)?;
+        add(plans, plan)?;
     }
+    Ok(())
+}
+
+/// Adds a plan behind the others.
+fn add(plans: &mut Vec<Plan>, plan: Plan) -> Result<(), NoMemory>
+    ensures { OnOk result (plans.new.items ≡ plans.old.items ++ plan ∷ []) }
+{
+    plans.push(plan)?;
     Ok(())
 }
 
