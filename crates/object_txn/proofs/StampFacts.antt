@@ -116,12 +116,12 @@ none_open (one ∷ more) was =
 -- what is open once an entry was made
 flagged_none : (dirty : List Dirt) (opened : List (Place × Bool)) (object : Place) → opened_of opened object ≡ None → opened_of (flagged dirty opened) object ≡ None
 flagged_none dirty [] object none = refl
-flagged_none dirty (one ∷ more) object none = by_cases (same_place one.0 object) refl none
+flagged_none dirty (one ∷ more) object none = by_cases (same_place one.0 object) refl (λ h. flagged_none dirty more object h) none
   where
-    by_cases : (b : Bool) → same_place one.0 object ≡ b → cond b (Some one.1) (opened_of more object) ≡ None
+    by_cases : (b : Bool) → same_place one.0 object ≡ b → (opened_of more object ≡ None → opened_of (flagged dirty more) object ≡ None) → cond b (Some one.1) (opened_of more object) ≡ None
         → cond (same_place one.0 object) (Some (one.1 || is_some (dirt_of dirty one.0))) (opened_of (flagged dirty more) object) ≡ None
-    by_cases true e h = cc h
-    by_cases false e h = ap (λ b. cond b (Some (one.1 || is_some (dirt_of dirty one.0))) (opened_of (flagged dirty more) object)) e ∙ flagged_none dirty more object h
+    by_cases true e rest h = cc h
+    by_cases false e rest h = ap (λ b. cond b (Some (one.1 || is_some (dirt_of dirty one.0))) (opened_of (flagged dirty more) object)) e ∙ rest h
 
 flagged_some : (dirty : List Dirt) (opened : List (Place × Bool)) (object : Place) → opened_of opened object ≡ Some false → is_some (dirt_of dirty object) ≡ true
     → opened_of (flagged dirty opened) object ≡ Some true

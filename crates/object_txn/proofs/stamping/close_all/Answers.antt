@@ -1,5 +1,6 @@
 use Rattle.std.proofs.Common.{rules, ◌≡◌, ◌+◌, ◌≤◌, List, [], ◌∷◌, drop, refl, sym, ap, ◌∙◌, subst, arith}
 use Rattle.std.specs.List.{AllByRecursion}
+use Rattle.std.proofs.lemmas.List.{drop_all}
 use Rattle.rma_layout.specs.Placement.{Place}
 use Rattle.window_rule.specs.Partition.{times}
 use Rattle.window_rule.specs.View.{View}
@@ -44,3 +45,9 @@ loop-plan-preserved g c =
           (ap (λ (v : View g.row.L-Note.Denot). v.stamps.opened) c.stamp_up.ensures.view);
       follows = follows_trans c.args.rank.now.view was.view now.view old.follows c.stamp_up.ensures.follows;
     }
+
+pub returns-clause-closed : goal.returns-clause-closed
+returns-clause-closed g c =
+    let old = c.loop-plan.invariant in
+    let none : drop c.loop-plan.plan-index c.args.plans.now ≡ [] = drop_all c.loop-plan.plan-index c.args.plans.now (omega (arith, c.loop-plan-test.false, c.loop-plan.auto.plan-index-end)) in
+    none_open c.loop-plan.rank.view.stamps.opened (subst (λ (l : List Plan). AreToClose l c.loop-plan.rank.view.stamps.opened) none old.opened)
