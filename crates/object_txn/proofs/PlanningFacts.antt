@@ -234,10 +234,10 @@ module _ (shape : Shape) (writes : Contents) (all : List (Place × Known)) (firs
       → chain_known (known_of all object) ≡ Some chain → ((block : Place) → times block new ≤ 1)
       → PlansNext shape writes object chain old new before after
       → ArePlansBut shape writes all first old ((object, chain) ∷ left) before → ArePlansBut shape writes all first new left after
-  plans_next object chain left old new before after alone known once (inl (unwritten, same, as_before)) was =
+  plans_next object chain left old new before now alone known once (inl (unwritten, same, as_before)) was =
       subst (λ (l : List Plan). ArePlansBut shape writes all first new left l) (sym as_before)
       (subst (λ (l : List Place). ArePlansBut shape writes all first l left before) (sym same) (passed object chain left old before unwritten was))
-  plans_next object chain left old new before after alone known once (inr (plan, at, written, plans, is)) was =
+  plans_next object chain left old new before now alone known once (inr (plan, at, written, plans, is)) was =
       subst (λ (l : List Plan). ArePlansBut shape writes all first new left l) (sym is)
       (moved at alone known written plans was)
     where

@@ -14,15 +14,12 @@ use Rattle.block_pool.specs.Gives.{IsForUse}
 use Rattle.object_txn.specs.Tied.{HasTaken}
 
 module _ {N : Type 0} (shape : Shape) (xs ys : List Place) where
-  counted : (block : Place) → times block (xs ++ ys) ≡ times block xs + times block ys
-  counted block = times-append block xs ys
-
   pub first_taken : (rank : RankModel N) → HasTaken shape rank.view.private rank.spares (xs ++ ys) → HasTaken shape rank.view.private rank.spares xs
   first_taken rank all = record {
-    own = λ block there. all.own block (omega (arith, there, counted block));
-    no_spare = λ block there. all.no_spare block (omega (arith, there, counted block));
-    blocks = λ block there. all.blocks block (omega (arith, there, counted block));
-    once = λ block. omega (arith, all.once block, counted block);
+    own = λ block there. all.own block (omega (arith, there, times-append block xs ys));
+    no_spare = λ block there. all.no_spare block (omega (arith, there, times-append block xs ys));
+    blocks = λ block there. all.blocks block (omega (arith, there, times-append block xs ys));
+    once = λ block. omega (arith, all.once block, times-append block xs ys);
   }
 
   -- the others are for use still
@@ -31,14 +28,14 @@ module _ {N : Type 0} (shape : Shape) (xs ys : List Place) where
   rest_taken before after stay all = record {
     own = λ block there. (still block there).own;
     no_spare = λ block there. (still block there).no_spare;
-    blocks = λ block there. all.blocks block (omega (arith, there, counted block));
-    once = λ block. omega (arith, all.once block, counted block);
+    blocks = λ block there. all.blocks block (omega (arith, there, times-append block xs ys));
+    once = λ block. omega (arith, all.once block, times-append block xs ys);
   }
     where
       still : (block : Place) → 0 < times block ys → IsForUse shape after block
       still block there =
-          let among : 0 < times block (xs ++ ys) = omega (arith, there, counted block) in
-          stay block (omega (arith, there, counted block, all.once block)) (record { own = all.own block among; no_spare = all.no_spare block among })
+          let among : 0 < times block (xs ++ ys) = omega (arith, there, times-append block xs ys) in
+          stay block (omega (arith, there, times-append block xs ys, all.once block)) (record { own = all.own block among; no_spare = all.no_spare block among })
 
 -- the block at a place, and those behind it
 pub behind_at : (blocks : List Place) (j : ℕ) (block : Place) → slice_get blocks j ≡ Some block → drop j blocks ≡ block ∷ drop (j + 1) blocks

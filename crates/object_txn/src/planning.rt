@@ -89,7 +89,9 @@ fn plan_all<L: Law>(
 {
     let mut plans = Vec::new(alloc);
     while let Some((at, blocks)) = chains.pop_first() {
-        plan_next(window, rank, writes, taken, at, blocks, &mut plans)?;
+        if let Err(why) = plan_next(window, rank, writes, taken, at, blocks, &mut plans) {
+            return Err(why);
+        }
     }
     Ok(plans)
 }
@@ -116,11 +118,14 @@ fn plan_next<L: Law>(
     ensures refused { IfErr result (λ why. Explains window.now.shape rank.old.view rank.new.view why) }
     ensures follows { Follows rank.old.view rank.new.view }
 {
-    if let Some(words) = writes.get(at) {
-        let plan = plan_one(window, rank, taken, at, blocks, words.len() as u64)?;
-        add(plans, plan)?;
+    match writes.get(at) {
+        Some(words) => {
+            let plan = plan_one(window, rank, taken, at, blocks, words.len() as u64)?;
+            add(plans, plan)?;
+            Ok(())
+        }
+        None => Ok(()),
     }
-    Ok(())
 }
 
 /// Adds a plan behind the others.
@@ -208,7 +213,9 @@ fn grow<L: Law>(
     ensures follows { Follows rank.old.view rank.new.view }
 {
     while (blocks.len() as u64) < count {
-        take_into(window, rank, taken, home, blocks)?;
+        if let Err(why) = take_into(window, rank, taken, home, blocks) {
+            return Err(why);
+        }
     }
     Ok(())
 }

@@ -1,10 +1,12 @@
 use Rattle.std.proofs.Common.{rules, ◌≡◌, ◌∙◌, List, [], sym, ap, subst, None}
-use Rattle.window_rule.specs.View.{View, OwnBlock}
+use Rattle.window_rule.specs.View.{View, Locks, Outside, OwnBlock}
 use Rattle.window_rule.specs.Gate.{entered}
 use Rattle.window_rule.specs.Locks.{hold_of}
 use Rattle.window_rule.specs.Spares.{SpareEnds}
+use Rattle.block_pool.specs.Gives.{OnlyBlocks}
 use Rattle.object_txn.specs.Plans.{surplus_in}
 use Rattle.object_txn.specs.Tied.{HasTaken, IsFree}
+use Rattle.object_txn.proofs.EndingFacts.{free_by}
 use Rattle.object_txn.proofs.TiedFacts.{tied_none}
 use Rattle.object_txn.proofs.committing.leave_committed.Goals as goal
 
@@ -17,3 +19,23 @@ give_surplus-requires-clause-surplus g c =
     let ends : left.spares ≡ c.args.rank.now.spares = c.leave_gate.ensures.spares ∙ c.leave_all.ensures.spares in
     subst (λ (o : List OwnBlock). HasTaken shape o left.spares (surplus_in c.args.plans.now)) (sym own)
     (subst (λ (e : SpareEnds). HasTaken shape c.args.rank.now.view.private e (surplus_in c.args.plans.now)) (sym ends) c.requires.surplus)
+
+pub returns-clause-tied : goal.returns-clause-tied
+returns-clause-tied g c =
+    let now = c.truths.new.self in
+    let blocks : OnlyBlocks c.leave_gate.new.rank.view now.view = subst (OnlyBlocks c.leave_gate.new.rank.view) (sym c.truths.ensures.view) c.give_surplus.ensures.view in
+    let gate : now.view.gate ≡ Outside = ap (λ (v : View g.row.L-Note.Denot). v.gate) blocks ∙ ap (λ (v : View g.row.L-Note.Denot). v.gate) c.leave_gate.ensures.view in
+    let dirty : now.view.dirty ≡ c.args.rank.now.view.dirty = ap (λ (v : View g.row.L-Note.Denot). v.dirty) blocks
+    ∙ (ap (λ (v : View g.row.L-Note.Denot). v.dirty) c.leave_gate.ensures.view ∙ ap (λ (v : View g.row.L-Note.Denot). v.dirty) c.leave_all.ensures.left.only) in
+    let opened : now.view.stamps.opened ≡ c.args.rank.now.view.stamps.opened = ap (λ (v : View g.row.L-Note.Denot). v.stamps.opened) blocks
+    ∙ (ap (λ (v : View g.row.L-Note.Denot). v.stamps.opened) c.leave_gate.ensures.view ∙ ap (λ (v : View g.row.L-Note.Denot). v.stamps.opened) c.leave_all.ensures.left.only) in
+    let locks : now.view.locks ≡ c.leave_all.new.rank.view.locks = ap (λ (v : View g.row.L-Note.Denot). v.locks) blocks
+    ∙ ap (λ (v : View g.row.L-Note.Denot). v.locks) c.leave_gate.ensures.view in
+    tied_none c.args.window.now now c.end.new.self
+    (c.truths.ensures.window ∙ (c.give_surplus.ensures.window ∙ (c.leave_gate.ensures.window ∙ (c.leave_all.ensures.window ∙ c.requires.window))))
+    (λ object. ap (λ (l : Locks). hold_of l object) locks ∙ c.leave_all.ensures.left.none object)
+    (record { clean = dirty ∙ c.requires.clean; closed = opened ∙ c.requires.closed; gate = gate })
+    c.end.ensures
+
+pub returns-clause-free : goal.returns-clause-free
+returns-clause-free g c = free_by c.args.window.now c.truths.new.self c.end.new.self (returns-clause-tied g c) c.end.ensures

@@ -5,8 +5,8 @@ use Rattle.object_txn.proofs.Explaining.{explains_earlier}
 use Rattle.object_txn.proofs.PlanningFacts.{grows-then, grows_more, taken-then}
 use Rattle.object_txn.proofs.planning.grow.Goals as goal
 
-pub loop-blocks-init : goal.loop-blocks-init
-loop-blocks-init g c = record {
+pub loop-rank-init : goal.loop-rank-init
+loop-rank-init g c = record {
   window = refl;
   taken = c.requires.taken;
   only = refl;
@@ -14,30 +14,30 @@ loop-blocks-init g c = record {
   follows = goes_on-refl (trail_of c.args.rank.now.view);
 }
 
-pub loop-blocks-preserved : goal.loop-blocks-preserved
-loop-blocks-preserved g c =
-    let old = c.loop-blocks.invariant in record {
+pub loop-rank-preserved : goal.loop-rank-preserved
+loop-rank-preserved g c =
+    let old = c.loop-rank.invariant in record {
       window = c.take_into.ensures.window ∙ old.window;
       taken = c.take_into.ensures.taken;
-      only = taken-then c.args.rank.now.view c.loop-blocks.rank.view c.take_into.new.rank.view old.only c.take_into.ensures.only;
-      grown = grows-then c.args.home c.args.taken.now.items c.loop-blocks.taken.items c.take_into.new.taken.items c.args.blocks.now c.loop-blocks.blocks c.take_into.new.blocks
-          old.grown c.in_ok-take_into.ensures.grown;
-      follows = follows_trans c.args.rank.now.view c.loop-blocks.rank.view c.take_into.new.rank.view old.follows c.take_into.ensures.follows;
+      only = taken-then c.args.rank.now.view c.loop-rank.rank.view c.take_into.new.rank.view old.only c.take_into.ensures.only;
+      grown = grows-then c.args.home c.args.taken.now.items c.loop-rank.taken.items c.take_into.new.taken.items c.args.blocks.now c.loop-rank.blocks c.take_into.new.blocks
+          old.grown c.in_default.ensures.grown;
+      follows = follows_trans c.args.rank.now.view c.loop-rank.rank.view c.take_into.new.rank.view old.follows c.take_into.ensures.follows;
     }
 
-pub returns-in_err-take_into-clause-more : goal.returns-in_err-take_into-clause-more
-returns-in_err-take_into-clause-more g c = λ block.
-    omega (arith, c.take_into.ensures.more block, grows_more c.args.home c.args.taken.now.items c.loop-blocks.taken.items c.args.blocks.now c.loop-blocks.blocks c.loop-blocks.invariant.grown block)
+pub returns-in-Err-clause-more : goal.returns-in-Err-clause-more
+returns-in-Err-clause-more g c = λ block.
+    omega (arith, c.take_into.ensures.more block, grows_more c.args.home c.args.taken.now.items c.loop-rank.taken.items c.args.blocks.now c.loop-rank.blocks c.loop-rank.invariant.grown block)
 
-pub returns-in_err-take_into-clause-only : goal.returns-in_err-take_into-clause-only
-returns-in_err-take_into-clause-only g c =
-    taken-then c.args.rank.now.view c.loop-blocks.rank.view c.take_into.new.rank.view c.loop-blocks.invariant.only c.take_into.ensures.only
+pub returns-in-Err-clause-only : goal.returns-in-Err-clause-only
+returns-in-Err-clause-only g c =
+    taken-then c.args.rank.now.view c.loop-rank.rank.view c.take_into.new.rank.view c.loop-rank.invariant.only c.take_into.ensures.only
 
-pub returns-in_err-take_into-clause-refused : goal.returns-in_err-take_into-clause-refused
-returns-in_err-take_into-clause-refused g c =
-    explains_earlier c.args.window.now.shape c.args.rank.now.view c.loop-blocks.rank.view c.take_into.new.rank.view c.in_err-take_into.error
-    c.loop-blocks.invariant.follows c.in_err-take_into.ensures.refused
+pub returns-in-Err-clause-refused : goal.returns-in-Err-clause-refused
+returns-in-Err-clause-refused g c =
+    explains_earlier c.args.window.now.shape c.args.rank.now.view c.loop-rank.rank.view c.take_into.new.rank.view c.in-Err.why
+    c.loop-rank.invariant.follows c.in-Err.ensures.refused
 
 pub returns-clause-more : goal.returns-clause-more
 returns-clause-more g c = λ block.
-    grows_more c.args.home c.args.taken.now.items c.loop-blocks.taken.items c.args.blocks.now c.loop-blocks.blocks c.loop-blocks.invariant.grown block
+    grows_more c.args.home c.args.taken.now.items c.loop-rank.taken.items c.args.blocks.now c.loop-rank.blocks c.loop-rank.invariant.grown block

@@ -5,8 +5,8 @@ use Rattle.object_txn.specs.Planning.{Grows}
 use Rattle.object_txn.specs.Tied.{HasTaken}
 use Rattle.object_txn.proofs.planning.grow.Given as goal
 
-abbrev pub invariant-loop-blocks : goal.invariant-loop-blocks
-invariant-loop-blocks g l = record {
+abbrev pub invariant-loop-rank : goal.invariant-loop-rank
+invariant-loop-rank g l = record {
   window : l.rank.window ≡ l.initial.rank.window;
   taken : HasTaken l.window.shape l.rank.view.private l.rank.spares l.taken.items;
   only : OnlyTaken l.initial.rank.view l.rank.view;
@@ -14,5 +14,5 @@ invariant-loop-blocks g l = record {
   follows : Follows l.initial.rank.view l.rank.view;
 }
 
-abbrev pub decreases-loop-blocks : goal.decreases-loop-blocks
-decreases-loop-blocks g l = l.count - length l.blocks
+abbrev pub decreases-loop-rank : goal.decreases-loop-rank
+decreases-loop-rank g l = l.count - length l.blocks

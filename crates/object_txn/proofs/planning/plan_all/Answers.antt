@@ -5,6 +5,7 @@ use Rattle.window_rule.specs.Trails.{trail_of}
 use Rattle.window_rule.proofs.Trails.{follows_trans, goes_on-refl}
 use Rattle.object_moves.specs.Noted.{Chains, blocks_of}
 use Rattle.object_txn.specs.Planning.{ArePlansBut}
+use Rattle.object_txn.specs.declared.plan.Plan.{Plan}
 use Rattle.object_txn.proofs.Explaining.{explains_earlier}
 use Rattle.object_txn.proofs.PlanningFacts.{first_known, first_noted, plans_begin, plans_done, plans_next, rest_known, taken-then}
 use Rattle.object_txn.proofs.planning.plan_all.Goals as goal
@@ -15,30 +16,30 @@ loop-at-init g c = record {
   taken = c.requires.taken;
   only = refl;
   known = c.requires.known;
-  plans = plans_begin c.args.window.now.shape c.args.writes.now c.args.rank.now.view.known c.args.taken.now.items c.requires.truths.lies c.requires.own
-      c.args.chains.now c.requires.noted;
+  plans = subst (λ (l : List Plan). ArePlansBut c.args.window.now.shape c.args.writes.now c.args.rank.now.view.known c.args.taken.now.items c.args.taken.now.items c.args.chains.now l)
+      (sym c.new-plans.ensures.items)
+      (plans_begin c.args.window.now.shape c.args.writes.now c.args.rank.now.view.known c.args.taken.now.items c.requires.truths.lies c.requires.own
+      c.args.chains.now c.requires.noted);
   follows = goes_on-refl (trail_of c.args.rank.now.view);
 }
 
 pub plan_next-requires-clause-object : goal.plan_next-requires-clause-object
 plan_next-requires-clause-object g c =
-    let known = c.loop-at.invariant.known c.in-Some.at c.in-Some.blocks (first_noted c.loop-at.chains c.pop_first.new.self c.in-Some.at c.in-Some.blocks c.in-Some.ensures.some) in
-    first_known (known_of c.args.rank.now.view.known c.in-Some.at) c.in-Some.blocks known (λ one is. (c.requires.truths.knows c.in-Some.at one is).0)
+    let known = c.loop-at.invariant.known _ _ (first_noted c.loop-at.chains c.pop_first.new.self _ _ c.in-Some.ensures.some) in
+    first_known _ _ known (λ one is. (c.requires.truths.knows _ one is).0)
 
 pub loop-at-preserved : goal.loop-at-preserved
 loop-at-preserved g c =
     let old = c.loop-at.invariant in
-    let at = c.in-Some.at in
-    let blocks = c.in-Some.blocks in
     let more = c.pop_first.new.self in
-    let known = old.known at blocks (first_noted c.loop-at.chains more at blocks c.in-Some.ensures.some) in record {
+    let known = old.known _ _ (first_noted c.loop-at.chains more _ _ c.in-Some.ensures.some) in record {
       window = c.plan_next.ensures.window ∙ old.window;
       taken = c.plan_next.ensures.taken;
       only = taken-then c.args.rank.now.view c.loop-at.rank.view c.plan_next.new.rank.view old.only c.plan_next.ensures.only;
-      known = λ object chain e. old.known object chain (rest_known c.loop-at.chains more at blocks c.in-Some.ensures.some c.in-Some.ensures.once object chain e);
+      known = λ object chain e. old.known object chain (rest_known c.loop-at.chains more _ _ c.in-Some.ensures.some c.in-Some.ensures.once object chain e);
       plans = plans_next c.args.window.now.shape c.args.writes.now c.args.rank.now.view.known c.args.taken.now.items c.requires.truths.lies c.requires.own
-          at blocks more c.loop-at.taken.items c.plan_next.new.taken.items c.loop-at.plans.items c.plan_next.new.plans.items c.in-Some.ensures.once known
-          c.plan_next.ensures.taken.once c.in_ok-plan_next.ensures.next
+          _ _ more c.loop-at.taken.items c.plan_next.new.taken.items c.loop-at.plans.items c.plan_next.new.plans.items c.in-Some.ensures.once known
+          c.plan_next.ensures.taken.once c.in_default-plan_next.ensures.next
           (subst (λ (l : Chains). ArePlansBut c.args.window.now.shape c.args.writes.now c.args.rank.now.view.known c.args.taken.now.items c.loop-at.taken.items l c.loop-at.plans.items)
           c.in-Some.ensures.some old.plans);
       follows = follows_trans c.args.rank.now.view c.loop-at.rank.view c.plan_next.new.rank.view old.follows c.plan_next.ensures.follows;
@@ -47,21 +48,21 @@ loop-at-preserved g c =
 pub loop-at-smaller : goal.loop-at-smaller
 loop-at-smaller g c = omega (arith, ap length c.in-Some.ensures.some)
 
-pub returns-in_err-plan_next-clause-more : goal.returns-in_err-plan_next-clause-more
-returns-in_err-plan_next-clause-more g c = λ block.
+pub returns-in-Err-clause-more : goal.returns-in-Err-clause-more
+returns-in-Err-clause-more g c = λ block.
     omega (arith, c.plan_next.ensures.more block, c.loop-at.invariant.plans.more block)
 
-pub returns-in_err-plan_next-clause-only : goal.returns-in_err-plan_next-clause-only
-returns-in_err-plan_next-clause-only g c =
+pub returns-in-Err-clause-only : goal.returns-in-Err-clause-only
+returns-in-Err-clause-only g c =
     taken-then c.args.rank.now.view c.loop-at.rank.view c.plan_next.new.rank.view c.loop-at.invariant.only c.plan_next.ensures.only
 
-pub returns-in_err-plan_next-clause-refused : goal.returns-in_err-plan_next-clause-refused
-returns-in_err-plan_next-clause-refused g c =
-    explains_earlier c.args.window.now.shape c.args.rank.now.view c.loop-at.rank.view c.plan_next.new.rank.view c.in_err-plan_next.error
-    c.loop-at.invariant.follows c.in_err-plan_next.ensures.refused
+pub returns-in-Err-clause-refused : goal.returns-in-Err-clause-refused
+returns-in-Err-clause-refused g c =
+    explains_earlier c.args.window.now.shape c.args.rank.now.view c.loop-at.rank.view c.plan_next.new.rank.view c.in-Err.why
+    c.loop-at.invariant.follows c.in-Err.ensures.refused
 
-pub returns-in_err-plan_next-clause-names : goal.returns-in_err-plan_next-clause-names
-returns-in_err-plan_next-clause-names g c = (c.in-Some.at.rank, c.in_err-plan_next.ensures.names)
+pub returns-in-Err-clause-names : goal.returns-in-Err-clause-names
+returns-in-Err-clause-names g c = (_, c.in-Err.ensures.names)
 
 pub returns-clause-more : goal.returns-clause-more
 returns-clause-more g c = c.loop-at.invariant.plans.more
