@@ -1,7 +1,7 @@
 use Rattle.std.proofs.Common.{◌≡◌, ◌≤◌, ◌<◌, ◌∙◌, List, ℕ, [], ◌∷◌, refl, sym, ap, subst, arith}
 use Rattle.rma_layout.specs.Placement.{Place}
 use Rattle.window_rule.specs.View.{View, Locks, OwnBlock, Dirt}
-use Rattle.window_rule.specs.Commit.{Commits, flagged}
+use Rattle.window_rule.specs.Commit.{Commits, flagged, entry_by}
 use Rattle.window_rule.specs.Dirty.{dirt_of}
 use Rattle.window_rule.specs.Partition.{places_of, times}
 use Rattle.window_rule.specs.RightsHold.{least_of}
@@ -34,18 +34,18 @@ rewrite_all-requires-clause-room g c =
     room_is g.L.Law.fits c.args.window.now c.args.rank.now c.args.txn.now c.args.plans.now c.requires.truths c.requires.tied c.requires.plans
     c.requires.begun c.keeps_lasting.ensures c.open_all.new.rank c.open_all.ensures.only c.open_all.ensures.spares c.open_all.ensures.opened
 
-pub place_entry-requires-clause-allowed : goal.place_entry-requires-clause-allowed
-place_entry-requires-clause-allowed g c =
+pub place_entry-number-requires-clause-allowed : goal.place_entry-number-requires-clause-allowed
+place_entry-number-requires-clause-allowed g c =
     subst (λ (n : ℕ). 0 < n) (sym (ap (λ (v : View g.row.L-Note.Denot). v.allowance) c.rewrite_all.ensures.only
     ∙ ap (λ (v : View g.row.L-Note.Denot). v.allowance) c.open_all.ensures.only)) c.requires.allowed
 
-pub place_entry-requires-clause-fits : goal.place_entry-requires-clause-fits
-place_entry-requires-clause-fits g c =
-    subst (λ (rights : List ℕ). g.L.Law.fits c.args.window.now.shape (record { rank = least_of rights; reads = c.args.txn.now.reads; writes = c.args.txn.now.writes; note = _ }))
+pub place_entry-number-requires-clause-fits : goal.place_entry-number-requires-clause-fits
+place_entry-number-requires-clause-fits g c =
+    subst (λ (rights : List ℕ). g.L.Law.fits c.args.window.now.shape (record { rank = least_of rights; reads = c.args.txn.now.reads; writes = c.args.txn.now.writes; note = g.C.Carries.note c.args.note.now }))
     (sym (ap (λ (v : View g.row.L-Note.Denot). v.rights) c.rewrite_all.ensures.only ∙ ap (λ (v : View g.row.L-Note.Denot). v.rights) c.open_all.ensures.only)) c.requires.fits
 
-pub place_entry-requires-clause-inside : goal.place_entry-requires-clause-inside
-place_entry-requires-clause-inside g c = inside_by c.args.window.now c.args.rank.now c.args.txn.now c.requires.tied
+pub place_entry-number-requires-clause-inside : goal.place_entry-number-requires-clause-inside
+place_entry-number-requires-clause-inside g c = inside_by c.args.window.now c.args.rank.now c.args.txn.now c.requires.tied
 
 pub close_all-requires-clause-marked : goal.close_all-requires-clause-marked
 close_all-requires-clause-marked g c =
@@ -68,10 +68,11 @@ close_all-requires-clause-opened g c =
 
 pub returns-clause-entry : goal.returns-clause-entry
 returns-clause-entry g c =
-    subst (λ (v : View g.row.L-Note.Denot). Enters _ c.args.rank.now.view c.place_entry-number.result v) (sym c.truths.ensures.view)
-    (enters _ c.args.rank.now.view c.open_all.new.rank.view c.rewrite_all.new.rank.view c.place_entry-number.new.rank.view c.close_all.new.rank.view c.place_entry-number.result
+    let entry = entry_by c.args.rank.now.view c.args.txn.now.reads c.args.txn.now.writes (g.C.Carries.note c.args.note.now) in
+    subst (λ (v : View g.row.L-Note.Denot). Enters entry c.args.rank.now.view c.place_entry-number.result v) (sym c.truths.ensures.view)
+    (enters entry c.args.rank.now.view c.open_all.new.rank.view c.rewrite_all.new.rank.view c.place_entry-number.new.rank.view c.close_all.new.rank.view c.place_entry-number.result
     c.open_all.ensures.only c.rewrite_all.ensures.only
-    (subst (λ (rights : List ℕ). Commits (record { rank = least_of rights; reads = c.args.txn.now.reads; writes = c.args.txn.now.writes; note = _ })
+    (subst (λ (rights : List ℕ). Commits (record { rank = least_of rights; reads = c.args.txn.now.reads; writes = c.args.txn.now.writes; note = g.C.Carries.note c.args.note.now })
     c.rewrite_all.new.rank.view c.place_entry-number.result c.place_entry-number.new.rank.view)
     (ap (λ (v : View g.row.L-Note.Denot). v.rights) c.rewrite_all.ensures.only ∙ ap (λ (v : View g.row.L-Note.Denot). v.rights) c.open_all.ensures.only) c.place_entry-number.ensures.placed)
     c.close_all.ensures.only)
