@@ -36,8 +36,8 @@ returns-in-Err-clause-refused g c =
     (follows_trans self.rank.view c.plan_writes.new.rank.view c.end_all.new.rank.view c.plan_writes.ensures.follows c.end_all.ensures.follows)
     names.0 c.in-Err.why names.1 c.end_all.ensures.ended
 
-pub write_planned-requires-clause-fits : goal.write_planned-requires-clause-fits
-write_planned-requires-clause-fits g c =
+pub write_planned-number-requires-clause-fits : goal.write_planned-number-requires-clause-fits
+write_planned-number-requires-clause-fits g c =
     let self = c.args.self.now in
     let same = c.plan_writes.ensures.same in
     subst (g.L.Law.fits self.window.now.shape) (sym (entry_same self.window.now self.rank c.plan_writes.new.rank self.txn c.plan_writes.new.txn _ c.plan_writes.ensures.follows
