@@ -12,16 +12,14 @@ use Rattle.object_words.specs.Blocks.{on_rank as place_on, one_if}
 use Rattle.object_words.specs.Contents.{Contents, content_of, words_at}
 use Rattle.object_words.specs.Entries.{Entry}
 use Rattle.window_rule.specs.View.{View, Dirt, GatePlace, Hold, Known, Locks, Look, Marked, Miss, OwnBlock, Refusal}
-use Rattle.window_rule.specs.Commit.{Commits, attached_of, entry_by, need_of}
+use Rattle.window_rule.specs.Commit.{Commits, attached_of, need_of}
 use Rattle.window_rule.specs.ContentsHold.{Lasts}
 use Rattle.window_rule.specs.Dirty.{dirt_of}
 use Rattle.window_rule.specs.Known.{known_of}
 use Rattle.window_rule.specs.Locks.{hold_of}
 use Rattle.window_rule.specs.Partition.{places_of, times}
-use Rattle.window_rule.specs.RightsHold.{least_of}
-use Rattle.window_rule.specs.RoomHolds.{asked_at, asked_for, count_on, kept_at}
+use Rattle.window_rule.specs.RoomHolds.{asked_at, asked_for, count_on}
 use Rattle.window_rule.specs.Spares.{IsNoSpare, SpareEnds}
-use Rattle.window_rule.specs.StampsHold.{opened_of}
 use Rattle.window_rule.specs.Truths.{IsTrueView}
 use Rattle.window_rule.proofs.JoinSteps.{times-append}
 use Rattle.window_rule.proofs.LockLemmas.{place_cases, same_place-false, same_place-refl}
@@ -33,7 +31,7 @@ use Rattle.object_moves.proofs.RewriteFacts.{others_no_spare}
 use Rattle.object_store.specs.declared.phase.Phase.TheVariants.{Writing}
 use Rattle.object_txn.specs.declared.plan.Plan.{Plan}
 use Rattle.object_txn.specs.declared.txn.Txn.{Txn}
-use Rattle.object_txn.specs.Committing.{Enters, Recalls}
+use Rattle.object_txn.specs.Committing.{Enters}
 use Rattle.object_txn.specs.Planning.{AreAllPlans, IsPlan}
 use Rattle.object_txn.specs.Plans.{AreOpened, ArePlanned, AreWritten, HasRoom, IsMarked, IsReady, OnlyOpened, OnlyStored, objects_in, surplus_in, taken_for, taken_on}
 use Rattle.object_txn.specs.State.{gate_of}

@@ -1,5 +1,5 @@
 -- Where one of some objects is rewritten, the others are ready still.
-use Rattle.std.proofs.Common.{◌≡◌, ◌≢◌, ℕ, ◌+◌, ◌<◌, ◌≤◌, cond, List, [], ◌∷◌, ◌++◌, drop, length, get_or, suc, ◌⊎◌, inl, inr, refl, sym, ap, ◌∙◌, subst, arith, Option, Some, None}
+use Rattle.std.proofs.Common.{◌≡◌, ◌≢◌, ℕ, ◌+◌, ◌<◌, ◌≤◌, cond, List, [], ◌∷◌, drop, length, get_or, suc, inl, inr, refl, sym, ap, ◌∙◌, subst, arith, Option, Some, None}
 use Rattle.std.specs.Option.{unwrap_or}
 use Rattle.std.proofs.Math.Seq.{drop-append_seam, drop-cons}
 use Rattle.std.proofs.lemmas.List.{take-append-drop}
@@ -8,7 +8,7 @@ use Rattle.rma_layout.specs.Shape.{Shape}
 use Rattle.rma_layout.specs.Placement.{Place, same_place}
 use Rattle.object_words.specs.Blocks.{one_if}
 use Rattle.object_words.specs.Contents.{Contents, content_of, words_at}
-use Rattle.window_rule.specs.View.{View, Dirt, Known, Marked, AsWriter}
+use Rattle.window_rule.specs.View.{View, Dirt, Known}
 use Rattle.window_rule.specs.Commit.{WasRead, attached_of}
 use Rattle.window_rule.specs.ContentsHold.{Lasts}
 use Rattle.window_rule.specs.Detach.{MayDetach}

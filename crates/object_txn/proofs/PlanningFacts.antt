@@ -1,14 +1,14 @@
 -- Objects are planned one after the other.
-use Rattle.std.proofs.Common.{◌≡◌, ◌≢◌, ℕ, zero, suc, ◌+◌, ◌-◌, ◌<◌, ◌≤◌, not, ◌&&◌, Bool, true, false, cond, List, [], ◌∷◌, ◌++◌, drop, length, ◌⊎◌, inl, inr, refl, sym, ap, ◌∙◌, subst, arith, Option, Some, None, append_assoc, length-append}
+use Rattle.std.proofs.Common.{◌≡◌, ◌≢◌, ℕ, ◌+◌, ◌-◌, ◌<◌, ◌≤◌, not, ◌&&◌, Bool, true, false, cond, List, [], ◌∷◌, ◌++◌, drop, length, inl, inr, refl, sym, ap, ◌∙◌, subst, arith, Option, Some, None, append_assoc, length-append}
 use Rattle.std.specs.Option.{unwrap_or}
 use Rattle.std.specs.List.{AllByRecursion}
-use Rattle.std.proofs.lemmas.Bool.{cases_eq, cases_Bool}
+use Rattle.std.proofs.lemmas.Bool.{cases_eq}
 use Rattle.std.proofs.lemmas.Bool.Decides.{nat_tests}
 use Rattle.std.proofs.Math.Seq.{drop-append_seam}
 use Rattle.rma_layout.specs.Shape.{Shape}
 use Rattle.rma_layout.specs.Placement.{Place, IsReserved, same_place}
 use Rattle.object_words.specs.Blocks.{blocks_for, is_reserved, one_if}
-use Rattle.object_words.specs.Contents.{Contents, content_of, is_empty, words_at}
+use Rattle.object_words.specs.Contents.{Contents, content_of, words_at}
 use Rattle.object_words.specs.Entries.{Entry}
 use Rattle.window_rule.specs.View.{View, Known}
 use Rattle.window_rule.specs.Known.{known_of}
@@ -19,12 +19,11 @@ use Rattle.window_rule.proofs.JoinSteps.{times-append}
 use Rattle.window_rule.proofs.LockLemmas.{place_cases, same_place-false, same_place-refl}
 use Rattle.fabric.specs.Window.{RankModel, WindowModel}
 use Rattle.block_pool.specs.Moves.{OnlyTaken}
-use Rattle.object_moves.specs.Loads.{blocks_asked}
 use Rattle.object_moves.specs.Noted.{Chains, blocks_of}
 use Rattle.object_moves.proofs.Chains.{asked_are}
 use Rattle.object_txn.specs.declared.plan.Plan.{Plan}
 use Rattle.object_txn.specs.declared.txn.Txn.{Txn}
-use Rattle.object_txn.specs.Planning.{AreAllPlans, ArePlans, ArePlansBut, Grows, IsPlan, Plans, PlansNext, own_start}
+use Rattle.object_txn.specs.Planning.{AreAllPlans, ArePlansBut, Grows, IsPlan, Plans, PlansNext, own_start}
 use Rattle.object_txn.specs.Plans.{objects_in, taken_for}
 use Rattle.object_txn.specs.Tied.{IsTied, KnowsChains, chain_known, words_in}
 use Rattle.object_txn.proofs.MakingFacts.{some_blocks}

@@ -2,7 +2,7 @@
 use Rattle.std.proofs.Common.{◌≡◌, ◌≢◌, ℕ, ◌+◌, ◌-◌, ◌<◌, ◌≤◌, not, ◌&&◌, Bool, true, false, cond, List, [], ◌∷◌, ◌++◌, drop, take, length, inl, inr, refl, sym, ap, ◌∙◌, subst, arith, Option, Some, None, length-append}
 use Rattle.std.specs.List.{AllByRecursion}
 use Rattle.std.proofs.lemmas.Bool.{cases_eq}
-use Rattle.std.proofs.lemmas.List.{length-take-le, take-append-drop}
+use Rattle.std.proofs.lemmas.List.{take-append-drop}
 use Rattle.rma_layout.specs.Shape.{Shape}
 use Rattle.rma_layout.specs.Placement.{Place}
 use Rattle.object_words.specs.Blocks.{content_blocks, is_reserved, on_rank as place_on, one_if}
@@ -11,8 +11,7 @@ use Rattle.window_rule.specs.View.{View, Dirt, Known}
 use Rattle.window_rule.specs.Commit.{need_from, need_of}
 use Rattle.window_rule.specs.Dirty.{dirt_of}
 use Rattle.window_rule.specs.Objects.{chain_length}
-use Rattle.window_rule.specs.Partition.{places_of}
-use Rattle.window_rule.specs.RoomHolds.{asked_at, asked_for, count_on, kept_at, kept_of, sum_below}
+use Rattle.window_rule.specs.RoomHolds.{asked_for, count_on, kept_of, sum_below}
 use Rattle.window_rule.proofs.Counting.{sum_below-same}
 use Rattle.window_rule.proofs.LockLemmas.{place_by_parts}
 use Rattle.window_rule.proofs.Removals.{on-both}
@@ -21,7 +20,7 @@ use Rattle.window_rule.proofs.Sums.{sum_below-except}
 use Rattle.fabric.specs.Window.{RankModel}
 use Rattle.object_moves.specs.Rewrites.{Rewrites, chain_of_first}
 use Rattle.object_txn.specs.declared.plan.Plan.{Plan}
-use Rattle.object_txn.specs.Plans.{HasRoom, IsReady, taken_on}
+use Rattle.object_txn.specs.Plans.{HasRoom, IsReady}
 use Rattle.object_txn.proofs.PlanFacts.{dirt_elsewhere, dirt_here, extras_are}
 
 -- what the old words ask for and the new ones need beyond is in as many blocks as hold either

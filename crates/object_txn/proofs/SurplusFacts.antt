@@ -1,5 +1,5 @@
 -- Blocks that are left over are given back one after the other.
-use Rattle.std.proofs.Common.{◌≡◌, ◌≢◌, ℕ, suc, ◌+◌, ◌<◌, List, [], ◌∷◌, ◌++◌, drop, length, inl, inr, refl, sym, ap, ◌∙◌, subst, arith, get_or, Some}
+use Rattle.std.proofs.Common.{◌≡◌, ◌≢◌, ℕ, suc, ◌+◌, ◌<◌, List, [], ◌∷◌, ◌++◌, drop, ap, ◌∙◌, arith, Some}
 use Rattle.std.specs.List.{slice_get}
 use Rattle.std.proofs.Math.Seq.{drop-cons}
 use Rattle.std.proofs.lemmas.Option.{get_or_from_slice_get, slice_get_within}
@@ -8,7 +8,7 @@ use Rattle.rma_layout.specs.Placement.{Place, same_place}
 use Rattle.object_words.specs.Blocks.{one_if}
 use Rattle.window_rule.specs.Partition.{times}
 use Rattle.window_rule.proofs.JoinSteps.{times-append}
-use Rattle.window_rule.proofs.LockLemmas.{same_place-false, same_place-refl}
+use Rattle.window_rule.proofs.LockLemmas.{same_place-refl}
 use Rattle.fabric.specs.Window.{RankModel}
 use Rattle.block_pool.specs.Gives.{IsForUse}
 use Rattle.object_txn.specs.Tied.{HasTaken}

@@ -1,7 +1,7 @@
-use Rattle.std.proofs.Common.{rules, ◌≡◌, ◌+◌, List, [], ◌∷◌, drop, sym, ap, ◌∙◌, subst, arith}
+use Rattle.std.proofs.Common.{◌≡◌, ◌+◌, List, [], ◌∷◌, drop, sym, ap, ◌∙◌, subst, arith}
 use Rattle.rma_layout.specs.Placement.{Place}
 use Rattle.window_rule.specs.Partition.{times}
-use Rattle.window_rule.specs.View.{View, Dirt}
+use Rattle.window_rule.specs.View.{View}
 use Rattle.window_rule.specs.Locks.{hold_of}
 use Rattle.window_rule.proofs.Trails.{follows_trans}
 use Rattle.object_txn.specs.Tied.{HasTaken}

@@ -1,5 +1,4 @@
-use Rattle.std.proofs.Common.{rules, ◌+◌, List, ◌∷◌, drop, ap, ◌∙◌, subst}
-use Rattle.rma_layout.specs.Placement.{Place}
+use Rattle.std.proofs.Common.{◌+◌, List, drop, ap, ◌∙◌, subst}
 use Rattle.window_rule.specs.View.{View}
 use Rattle.window_rule.specs.Locks.{hold_of}
 use Rattle.window_rule.proofs.Trails.{follows_trans}

@@ -1,6 +1,4 @@
-use Rattle.std.proofs.Common.{◌≡◌, drop, None}
-use Rattle.rma_layout.specs.Placement.{Place}
-use Rattle.window_rule.specs.Locks.{hold_of}
+use Rattle.std.proofs.Common.{◌≡◌, drop}
 use Rattle.window_rule.specs.Trails.{Follows}
 use Rattle.block_pool.specs.Gives.{OnlyBlocks}
 use Rattle.object_txn.specs.Plans.{surplus_in}

@@ -1,11 +1,10 @@
-use Rattle.std.proofs.Common.{rules, ◌≡◌, ◌∙◌, List, [], sym, ap, subst, None}
+use Rattle.std.proofs.Common.{◌≡◌, ◌∙◌, List, sym, ap, subst}
 use Rattle.window_rule.specs.View.{View, Locks, Outside, OwnBlock}
-use Rattle.window_rule.specs.Gate.{entered}
 use Rattle.window_rule.specs.Locks.{hold_of}
 use Rattle.window_rule.specs.Spares.{SpareEnds}
 use Rattle.block_pool.specs.Gives.{OnlyBlocks}
 use Rattle.object_txn.specs.Plans.{surplus_in}
-use Rattle.object_txn.specs.Tied.{HasTaken, IsFree}
+use Rattle.object_txn.specs.Tied.{HasTaken}
 use Rattle.object_txn.proofs.EndingFacts.{free_by}
 use Rattle.object_txn.proofs.TiedFacts.{tied_none}
 use Rattle.object_txn.proofs.committing.leave_committed.Goals as goal

@@ -1,16 +1,13 @@
-use Rattle.std.proofs.Common.{◌≡◌, ◌≤◌, ◌<◌, ◌∙◌, List, ℕ, [], ◌∷◌, refl, sym, ap, subst, arith}
-use Rattle.rma_layout.specs.Placement.{Place}
-use Rattle.window_rule.specs.View.{View, Locks, OwnBlock, Dirt}
+use Rattle.std.proofs.Common.{◌≡◌, ◌≤◌, ◌<◌, ◌∙◌, List, ℕ, refl, sym, ap, subst}
+use Rattle.window_rule.specs.View.{View, Locks, OwnBlock}
 use Rattle.window_rule.specs.Commit.{Commits, flagged, entry_by}
 use Rattle.window_rule.specs.Dirty.{dirt_of}
 use Rattle.window_rule.specs.Partition.{places_of, times}
 use Rattle.window_rule.specs.RightsHold.{least_of}
 use Rattle.window_rule.specs.Spares.{IsNoSpare, SpareEnds}
-use Rattle.object_words.specs.Entries.{Entry}
 use Rattle.object_txn.specs.Committing.{Enters}
 use Rattle.object_txn.specs.Plans.{surplus_in}
 use Rattle.object_txn.specs.Tied.{HasLocks}
-use Rattle.object_txn.specs.State.{gate_of}
 use Rattle.object_txn.proofs.CommitFacts.{all_marked, dirt_there, enters, gate_stays, inside_by, locks_stay, planned_is, planned_written, room_is, surplus_is, written_is}
 use Rattle.object_txn.proofs.StampFacts.{to_close}
 use Rattle.object_txn.proofs.committing.write_planned.Goals as goal

@@ -1,4 +1,4 @@
-use Rattle.std.proofs.Common.{rules, ◌∙◌, [], refl, sym, arith, append-nil}
+use Rattle.std.proofs.Common.{◌∙◌, [], refl, sym, arith, append-nil}
 use Rattle.window_rule.specs.Trails.{trail_of}
 use Rattle.window_rule.proofs.Trails.{follows_trans, goes_on-refl}
 use Rattle.object_txn.proofs.Explaining.{explains_earlier}

@@ -1,9 +1,7 @@
-use Rattle.std.proofs.Common.{rules, ◌≡◌, ◌∙◌, List, [], ◌∷◌, refl, sym, ap, subst, arith, length, Some, None}
-use Rattle.rma_layout.specs.Placement.{Place}
-use Rattle.window_rule.specs.Known.{known_of}
+use Rattle.std.proofs.Common.{◌∙◌, List, refl, sym, ap, subst, arith, length}
 use Rattle.window_rule.specs.Trails.{trail_of}
 use Rattle.window_rule.proofs.Trails.{follows_trans, goes_on-refl}
-use Rattle.object_moves.specs.Noted.{Chains, blocks_of}
+use Rattle.object_moves.specs.Noted.{Chains}
 use Rattle.object_txn.specs.Planning.{ArePlansBut}
 use Rattle.object_txn.specs.declared.plan.Plan.{Plan}
 use Rattle.object_txn.proofs.Explaining.{explains_earlier}

@@ -1,4 +1,4 @@
-use Rattle.std.proofs.Common.{◌≡◌, ◌∙◌, [], inl, inr, refl, sym, ap, subst, length, Some, None}
+use Rattle.std.proofs.Common.{◌≡◌, ◌∙◌, [], inl, inr, refl, sym, ap, subst, length, Some}
 use Rattle.std.specs.Option.{unwrap_or}
 use Rattle.object_words.specs.Contents.{content_of, words_at}
 use Rattle.object_txn.specs.Planning.{Plans}

@@ -1,9 +1,8 @@
-use Rattle.std.proofs.Common.{◌≡◌, ◌≢◌, ◌∙◌, List, ◌∷◌, refl, sym, ap, subst, Some, None}
+use Rattle.std.proofs.Common.{◌∙◌, List, refl, sym, ap, subst}
 use Rattle.rma_layout.specs.Placement.{Place}
 use Rattle.window_rule.specs.View.{View, Known}
 use Rattle.object_txn.specs.declared.txn.Txn.{Txn}
 use Rattle.object_txn.specs.Planning.{AreAllPlans}
-use Rattle.object_txn.specs.Tied.{IsTied}
 use Rattle.object_txn.proofs.PlanningFacts.{has_own_block, noted_by}
 use Rattle.object_txn.proofs.TiedFacts.{tied_beside, tied_same, tied_taken}
 use Rattle.object_txn.proofs.planning.plan_writes.Goals as goal

@@ -1,5 +1,4 @@
-use Rattle.std.proofs.Common.{◌∷◌, [], refl, arith, ap}
-use Rattle.rma_layout.specs.Placement.{Place}
+use Rattle.std.proofs.Common.{◌∷◌, [], arith, ap}
 use Rattle.window_rule.specs.Partition.{times}
 use Rattle.object_txn.proofs.MakingFacts.{noted_more}
 use Rattle.object_txn.proofs.planning.take_into.Goals as goal

@@ -1,4 +1,4 @@
-use Rattle.std.proofs.Common.{◌+◌, ◌≤◌, List, ℕ, ◌∷◌, drop, arith, refl, sym, ap, ◌∙◌, subst}
+use Rattle.std.proofs.Common.{◌+◌, ◌≤◌, List, ℕ, ◌∷◌, drop, refl, sym, ◌∙◌, subst}
 use Rattle.object_words.specs.Contents.{content_of}
 use Rattle.window_rule.specs.Partition.{places_of, times}
 use Rattle.window_rule.proofs.Trails.{follows_trans}

@@ -1,9 +1,6 @@
-use Rattle.std.proofs.Common.{rules, ◌≡◌, ◌∙◌, List, ℕ, sym, ap, subst}
-use Rattle.window_rule.specs.View.{View}
-use Rattle.window_rule.specs.Trails.{Follows}
+use Rattle.std.proofs.Common.{sym, ap, subst}
 use Rattle.window_rule.proofs.Trails.{follows_trans}
 use Rattle.object_txn.specs.declared.txn.Txn.{Txn}
-use Rattle.object_txn.specs.Tied.{IsTied}
 use Rattle.object_txn.proofs.EntryFacts.{commits, entry_same, recalls_all}
 use Rattle.object_txn.proofs.Explaining.{explains_later, recalls_by}
 use Rattle.object_txn.proofs.StoreFacts.{continues, recalled, refuses_commit}
