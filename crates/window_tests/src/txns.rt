@@ -1,4 +1,4 @@
-use crate::steps::Anything;
+use crate::steps::{Anything, NoNote};
 use fabric::Window;
 use lock_words::Want;
 use object_txn::{TxnRefused, WindowStore};
@@ -54,6 +54,34 @@ fn a_transaction_writes_and_aborts(rt: HostRuntime) -> Result<(), Fail> {
     };
     assert_eq!(rt; again, made);
     store.abort();
+    Ok(())
+}
+
+#[test]
+fn a_transaction_commits(rt: HostRuntime) -> Result<(), Fail> {
+    let geometry = Geometry::new(1, 8, 8, 2, 2)?;
+    let (window, rank) = Window::<Anything>::new(rt.alloc(), geometry)?;
+    let mut store = WindowStore::over(rt.alloc(), &window, rank);
+    let Ok(()) = store.begin(true) else {
+        panic!(rt; "begun")
+    };
+    let mut words = Words::new(rt.alloc());
+    words.push(7)?;
+    let Ok(()) = store.write(DPtr::new(0, 1), words) else {
+        panic!(rt; "written")
+    };
+    let Ok(number) = store.commit(&NoNote) else {
+        panic!(rt; "committed")
+    };
+    assert_eq!(rt; number, 0);
+    let Ok(()) = store.begin(false) else {
+        panic!(rt; "begun again")
+    };
+    let Ok(words) = store.read(DPtr::new(0, 1)) else {
+        panic!(rt; "read")
+    };
+    assert!(rt; words.len() == 1 && *words.at(0) == 7);
+    assert_eq!(rt; store.finish(), 1);
     Ok(())
 }
 
