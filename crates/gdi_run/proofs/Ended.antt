@@ -1,6 +1,7 @@
 -- How a command ends: whose files aren't read, that isn't done, or that has written.
 use Rattle.std.proofs.Common.{◌≡◌, ◌<◌, ◌≤◌, ℕ, false, List, [], length, take, Option, Some, None, inl, inr, refl, sym, ap, subst, ◌∙◌, arith}
 use Rattle.std.specs.Prelude.{IfSome, Result, Ok, Err, ◌⊎◌}
+use Rattle.std.specs.Borrow.{Bor}
 use Rattle.std.proofs.lemmas.Bool.{false≢true}
 use Rattle.gdi_kinds.specs.declared.named_bytes.NamedBytes.{NamedBytes}
 use Rattle.gdi_io.specs.Faults.{Rose}
@@ -115,20 +116,20 @@ module _ (old new : Told) (asked : Command) (held : Held) (sink sink' : Taken) (
     complete = λ files told may still runs. complete (held_may files told may) runs;
   }
 
-  pub ends_written : {T E : Type 0} (x : T) (written : List ℕ) → Writes asked held written → WritesAll {T} {E} sink sink' written (Ok x) → EndsCommand old new asked sink sink' Done
+  pub ends_written : {T E : Type 0} (x : T) (written : List ℕ) → Writes asked held written → WritesAll {T = T} {E = E} sink sink' written (Ok x) → EndsCommand old new asked sink sink' Done
   ends_written x written writes all = ended Done (record { held = held; written = written; read = read; writes = writes; taken = all.ok }) (λ may runs. done_ends asked)
 
-  pub ends_cut : {T E : Type 0} (e : E) (written : List ℕ) → Writes asked held written → WritesAll {T} {E} sink sink' written (Err e) → EndsCommand old new asked sink sink' WriteFault
+  pub ends_cut : {T E : Type 0} (e : E) (written : List ℕ) → Writes asked held written → WritesAll {T = T} {E = E} sink sink' written (Err e) → EndsCommand old new asked sink sink' WriteFault
   ends_cut e written writes cut =
       ended WriteFault (cut.cause.failed, (cut.err.0, record { held = held; written = written; read = read; writes = writes; taken = cut.err.2 })) (λ may runs. absurd (runs cut.cause.failed))
 
 -- what the files of a run hold
-pub run_read : (old : Told) (source : Source) (script : _) (texts : Given) → IfSome old.files (λ files. texts ≡ texts_in files (names_with source script.now None)) → AreRead old (Run source script) (record { texts = texts; output = [] })
+pub run_read : (old : Told) (source : Source) (script : Bor (List ℕ)) (texts : Given) → IfSome old.files (λ files. texts ≡ texts_in files (names_with source script.now None)) → AreRead old (Run source script) (record { texts = texts; output = [] })
 run_read old source script texts read =
     if_some_more old.files (λ files. texts ≡ texts_in files (names_with source script.now None)) (λ files. record { texts = texts; output = [] } ≡ held_in files (names_with source script.now None))
     (λ files are. ap (λ (t : Given). (record { texts = t; output = [] })) are) read
 
-module _ (old new : Told) (source : Source) (script : _) (texts : Given) (sink : Taken) (reads : ReadsFiles old new (names_with source script.now None) (λ files. texts_in files (names_with source script.now None)) (Ok texts)) where
+module _ (old new : Told) (source : Source) (script : Bor (List ℕ)) (texts : Given) (sink : Taken) (reads : ReadsFiles old new (names_with source script.now None) (λ files. texts_in files (names_with source script.now None)) (Ok texts)) where
   why_not_run : (why : RunRefused) → TellsWhy source.geometry texts why → Ends old new (Run source script) sink sink (status_of why)
   why_not_run (refused.BadLoad told row kind) tells = (record { held = record { texts = texts; output = [] }; read = run_read old source script texts reads.ok.0; fails = (refused.BadLoad told row kind, tells, refl) }, refl)
   why_not_run (refused.BadScript line kind) tells = (record { held = record { texts = texts; output = [] }; read = run_read old source script texts reads.ok.0; fails = (refused.BadScript line kind, tells, refl) }, refl)
@@ -141,7 +142,7 @@ module _ (old new : Told) (source : Source) (script : _) (texts : Given) (sink :
       (ended old new (Run source script) (record { texts = texts; output = [] }) sink sink (run_read old source script texts reads.ok.0) (λ status. short_read_all old new status reads.ok.1) reads.files (status_of why) (why_not_run why tells)
       (λ may runs. inr (ap status_of (right_texts source.geometry texts may.0 why may.1 may.2 tells))))
 
-module _ (old new : Told) (source : Source) (script output : _) (held : Held) (sink : Taken)
+module _ (old new : Told) (source : Source) (script output : Bor (List ℕ)) (held : Held) (sink : Taken)
     (reads : ReadsFiles old new (names_with source script.now (Some output.now)) (λ files. held_in files (names_with source script.now (Some output.now))) (Ok held)) where
   why_not_checked : (why : CheckRefused) → IsUnchecked source.geometry held.texts held.output why → Ends old new (Check source script output) sink sink (status_of_check why)
   why_not_checked (unchecked.Texts (refused.BadLoad told row kind)) tells = (record { held = held; read = reads.ok.0; fails = inl (unchecked.Texts (refused.BadLoad told row kind), tells, refl) }, refl)
@@ -176,10 +177,10 @@ room_refuses shape load (refused.LoadFull Edges rank) room tells = let no : ◌�
 room_refuses shape load refused.NoMemory room tells = refl
 
 module _ (shelf : Told) (size seed : ℕ) (sink sink' : Taken) where
-  pub drill_written : {T E : Type 0} (x : T) (written : List ℕ) → PrintsDrill drill_shape size seed written → WritesAll {T} {E} sink sink' written (Ok x) → EndsCommand shelf shelf (Drill size seed) sink sink' Done
+  pub drill_written : {T E : Type 0} (x : T) (written : List ℕ) → PrintsDrill drill_shape size seed written → WritesAll {T = T} {E = E} sink sink' written (Ok x) → EndsCommand shelf shelf (Drill size seed) sink sink' Done
   drill_written x written prints all = ends_written shelf shelf (Drill size seed) (held_in [] no_names) sink sink' (all_hold_nothing shelf.files) (λ status. inl refl) refl x written prints all
 
-  pub drill_cut : {T E : Type 0} (e : E) (written : List ℕ) → PrintsDrill drill_shape size seed written → WritesAll {T} {E} sink sink' written (Err e) → EndsCommand shelf shelf (Drill size seed) sink sink' WriteFault
+  pub drill_cut : {T E : Type 0} (e : E) (written : List ℕ) → PrintsDrill drill_shape size seed written → WritesAll {T = T} {E = E} sink sink' written (Err e) → EndsCommand shelf shelf (Drill size seed) sink sink' WriteFault
   drill_cut e written prints cut = ends_cut shelf shelf (Drill size seed) (held_in [] no_names) sink sink' (all_hold_nothing shelf.files) (λ status. inl refl) refl e written prints cut
 
 module _ (shelf : Told) (size seed : ℕ) (sink : Taken) where

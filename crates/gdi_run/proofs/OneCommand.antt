@@ -1,5 +1,5 @@
 -- Words ask for one command, and aren't refused then.
-use Rattle.std.proofs.Common.{◌≡◌, ◌≤◌, ℕ, List, [], ◌∷◌, map, codes, Option, Some, None, refl, sym, ap, subst, ◌∙◌}
+use Rattle.std.proofs.Common.{◌≡◌, ◌≤◌, ℕ, List, [], ◌∷◌, map, codes, Option, Some, None, refl, sym, ap, subst, ◌∙◌, arith}
 use Rattle.std.specs.Option.{option_map, option_to_list}
 use Rattle.std.proofs.lemmas.Bool.{false≢true}
 use Rattle.std.proofs.lemmas.Fmt.{decimal_injective}
@@ -247,6 +247,15 @@ not_refused named.Drill words asked (usage.Geometry bad) done asks (others, othe
 
 -- ---- the words of a command are of one
 
+abbrev front : List ℕ → ℕ
+front [] = 0
+front (byte ∷ bytes) = byte
+
+check_is_not_drill : codes "check" ≡ codes "drill" → ⊥
+check_is_not_drill is =
+    let fronts : 99 ≡ 100 = ap front is in
+    omega (arith, fronts)
+
 pub same_command : (one other : CommandName) → command_text one ≡ command_text other → one ≡ other
 same_command named.Run named.Run is = refl
 same_command named.Run named.Check is = absurd (cc)
@@ -255,12 +264,12 @@ same_command named.Run named.Drill is = absurd (cc)
 same_command named.Check named.Run is = absurd (cc)
 same_command named.Check named.Check is = refl
 same_command named.Check named.Report is = absurd (cc)
-same_command named.Check named.Drill is = absurd (cc)
+same_command named.Check named.Drill is = absurd (check_is_not_drill is)
 same_command named.Report named.Run is = absurd (cc)
 same_command named.Report named.Check is = absurd (cc)
 same_command named.Report named.Report is = refl
 same_command named.Report named.Drill is = absurd (cc)
 same_command named.Drill named.Run is = absurd (cc)
-same_command named.Drill named.Check is = absurd (cc)
+same_command named.Drill named.Check is = absurd (check_is_not_drill (sym is))
 same_command named.Drill named.Report is = absurd (cc)
 same_command named.Drill named.Drill is = refl

@@ -18,7 +18,7 @@ pub(crate) fn check_files<F: Shelf, K: Sink>(
     shelf: &mut F,
     out: &mut K,
 ) -> Status
-    ensures { EndsCommand (F.told shelf.old) (F.told shelf.new) (Check source.now script output) (K.taken out.old) (K.taken out.new) result }
+    ensures { EndsCommand (F.told shelf.old) (F.told shelf.new) (Check source.now script.entry output.entry) (K.taken out.old) (K.taken out.new) result }
 {
     let files = match read_check_files(alloc, shelf, source, script, output) {
         Ok(files) => files,

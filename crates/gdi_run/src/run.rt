@@ -17,7 +17,7 @@ pub(crate) fn run_files<F: Shelf, K: Sink>(
     shelf: &mut F,
     out: &mut K,
 ) -> Status
-    ensures { EndsCommand (F.told shelf.old) (F.told shelf.new) (Run source.now script) (K.taken out.old) (K.taken out.new) result }
+    ensures { EndsCommand (F.told shelf.old) (F.told shelf.new) (Run source.now script.entry) (K.taken out.old) (K.taken out.new) result }
 {
     let files = match read_files(alloc, shelf, source, script) {
         Ok(files) => files,
