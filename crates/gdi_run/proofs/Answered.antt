@@ -1,6 +1,5 @@
 -- What the top call answers, by what it did.
-use Rattle.std.proofs.Common.{◌≡◌, ◌≤◌, ℕ, List, [], ◌∷◌, Some, inl, inr, refl, sym, subst, ap, ◌∙◌}
-use Rattle.gdi_kinds.specs.declared.named_bytes.NamedBytes.{NamedBytes}
+use Rattle.std.proofs.Common.{◌≡◌, ◌≤◌, ℕ, List, [], ◌∷◌, inl, refl, sym, subst, ◌∙◌}
 use Rattle.gdi_io.specs.Shelf.{Told}
 use Rattle.gdi_io.specs.Sink.{Taken}
 use Rattle.command_words.specs.Items.{Text}

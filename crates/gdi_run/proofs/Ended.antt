@@ -1,6 +1,6 @@
 -- How a command ends: whose files aren't read, that isn't done, or that has written.
-use Rattle.std.proofs.Common.{◌≡◌, ◌<◌, ◌≤◌, ℕ, false, List, [], length, take, Option, Some, None, inl, inr, refl, sym, ap, subst, ◌∙◌, arith}
-use Rattle.std.specs.Prelude.{IfSome, Result, Ok, Err, ◌⊎◌}
+use Rattle.std.proofs.Common.{◌≡◌, ◌<◌, ◌≤◌, ℕ, false, List, [], length, Option, Some, None, inl, inr, refl, sym, ap, subst, ◌∙◌, arith}
+use Rattle.std.specs.Prelude.{IfSome, Ok, Err, ◌⊎◌}
 use Rattle.std.specs.Borrow.{Bor}
 use Rattle.std.proofs.lemmas.Bool.{false≢true}
 use Rattle.gdi_kinds.specs.declared.named_bytes.NamedBytes.{NamedBytes}
@@ -10,12 +10,11 @@ use Rattle.gdi_io.specs.Shelf.{Told}
 use Rattle.gdi_io.specs.Sink.{Taken}
 use Rattle.gdi_io.specs.Whole.{WritesAll, longest_file}
 use Rattle.rma_layout.specs.Shape.{Shape}
-use Rattle.command_words.specs.Items.{Text}
 use Rattle.command_words.specs.declared.command.Command.{Command}
 use Rattle.command_words.specs.declared.command.Command.TheVariants.{Run, Check, Report, Drill}
 use Rattle.command_words.specs.declared.source.Source.{Source}
 use Rattle.plain_run.specs.Given.{Given}
-use Rattle.plain_run.specs.Loading.{HasRoom, full_for}
+use Rattle.plain_run.specs.Loading.{HasRoom}
 use Rattle.plain_run.specs.Running.{TellsFull, TellsWhy}
 use Rattle.bulk_load.specs.declared.load_file.LoadFile.TheVariants.{Vertices, Edges}
 use Rattle.plain_run.specs.declared.load.Load.{Load}
@@ -35,7 +34,7 @@ use Rattle.drill_run.specs.Drills.{PrintsDrill, drill_shape, load_of}
 use Rattle.gdi_run.specs.Commands.{Held, held_in, names_for, names_with, no_names, texts_in}
 use Rattle.gdi_run.specs.Reading.{AreUnread, IsQuiet, ReadsFiles}
 use Rattle.gdi_run.specs.Statuses.{status_of, status_of_check, status_of_illegal}
-use Rattle.gdi_run.specs.Answer.{AreRead, Ends, EndsCommand, Fails, HasFailed, HasWritten, IsEnd, MayBeDone, MayDo, Writes}
+use Rattle.gdi_run.specs.Answer.{AreRead, Ends, EndsCommand, IsEnd, MayBeDone, MayDo, Writes}
 use Rattle.gdi_run.proofs.Unread.{if_some_more}
 
 done_ends : (asked : Command) → IsEnd asked Done

@@ -1,4 +1,4 @@
-use Rattle.gdi_run.proofs.Unread.{all_read, output_unread, run_unread}
+use Rattle.gdi_run.proofs.Unread.{all_read, output_unread}
 use Rattle.gdi_run.proofs.reading.read_check_files.Goals as goal
 
 pub returns-in-Ok : goal.returns-in-Ok
