@@ -69,6 +69,7 @@ module _ (all : List Text) (name : CommandName) (words : List Text) (names : Nam
       cause = λ other others also. caused other others status also (cause_of asked status asks ended.ends);
       too_long = ended.too_long;
       files = ended.files;
+      nothing = λ other others wanted also wants none. ended.nothing (sym (alike name words asked wanted (done_of all name words names) asks (asks_here other others wanted also wants)).names ∙ none);
       complete = λ other others wanted files also wants told may quiet runs.
           let same = alike name words asked wanted (done_of all name words names) asks (asks_here other others wanted also wants) in
           let here : MayBeDone files asked = (
@@ -84,6 +85,7 @@ module _ (all : List Text) (name : CommandName) (words : List Text) (names : Nam
     cause = λ other others also. caused shelf shelf sink sink other others (Usage kind) also (why, refl, refl);
     too_long = inl refl;
     files = refl;
+    nothing = λ other others wanted also wants none. refl;
     complete = λ other others wanted files also wants told may quiet runs.
         absurd (not_refused name words wanted kind (done_of all name words names) (asks_here other others wanted also wants) why);
   }

@@ -10,6 +10,7 @@ use Rattle.gdi_io.specs.Shelf.{Told}
 use Rattle.gdi_io.specs.Sink.{Taken}
 use Rattle.gdi_io.specs.Whole.{WritesAll, longest_file}
 use Rattle.rma_layout.specs.Shape.{Shape}
+use Rattle.command_words.specs.Items.{Text}
 use Rattle.command_words.specs.declared.command.Command.{Command}
 use Rattle.command_words.specs.declared.command.Command.TheVariants.{Run, Check, Report, Drill}
 use Rattle.command_words.specs.declared.source.Source.{Source}
@@ -28,10 +29,11 @@ use Rattle.plain_check.specs.declared.check_refused.CheckRefused.{CheckRefused}
 use Rattle.plain_check.specs.declared.check_refused.CheckRefused.TheVariants as unchecked
 use Rattle.plain_check.proofs.Accepted.{right_outputs}
 use Rattle.gdi_run.specs.declared.status.FileKind.{FileKind}
+use Rattle.gdi_run.specs.declared.status.FileKind.TheVariants as file
 use Rattle.gdi_run.specs.declared.status.Status.{Status}
 use Rattle.gdi_run.specs.declared.status.Status.TheVariants.{Done, Usage, ReadFault, TooLong, BadLoad, BadScript, BadOutput, LoadFull, WriteFault, Illegal, NoMemory}
 use Rattle.drill_run.specs.Drills.{PrintsDrill, drill_shape, load_of}
-use Rattle.gdi_run.specs.Commands.{Held, held_in, names_for, names_with, no_names, texts_in}
+use Rattle.gdi_run.specs.Commands.{FileNames, Held, held_in, name_of, names_for, names_with, no_names, texts_in}
 use Rattle.gdi_run.specs.Reading.{AreUnread, IsQuiet, ReadsFiles}
 use Rattle.gdi_run.specs.Statuses.{status_of, status_of_check, status_of_illegal}
 use Rattle.gdi_run.specs.Answer.{AreRead, Ends, EndsCommand, IsEnd, MayBeDone, MayDo, Writes}
@@ -48,6 +50,19 @@ no_memory_ends (Run source script) status is = inr is
 no_memory_ends (Check source script output) status is = inr (inl is)
 no_memory_ends (Report source) status is = inr is
 no_memory_ends (Drill size seed) status is = inr is
+
+-- ---- a command that reads names a file
+
+a_file_is_named : (kind : FileKind) (name : Text) → name_of no_names kind ≡ Some name → ⊥
+a_file_is_named file.Vertices name is = absurd (cc)
+a_file_is_named file.Edges name is = absurd (cc)
+a_file_is_named file.Script name is = absurd (cc)
+a_file_is_named file.Output name is = absurd (cc)
+
+pub a_script_is_named : (source : Source) (script : Text) (output : Option Text) → names_with source script output ≡ no_names → ⊥
+a_script_is_named source script output is =
+    let no : ◌≡◌ {A = Option Text} (Some script) None = ap (λ (names : FileNames). names.script) is in
+    absurd (cc)
 
 -- ---- files that aren't read
 
@@ -87,6 +102,7 @@ module _ (old new : Told) (asked : Command) (sink : Taken) where
     ends = unread_ends status reads.err.0;
     too_long = inr reads.err.1.too_long;
     files = reads.files;
+    nothing = λ none. absurd (a_file_is_named reads.err.0.kind reads.err.0.name (subst (λ (names : FileNames). name_of names reads.err.0.kind ≡ Some reads.err.0.name) none reads.err.0.is));
     complete = λ files told may quiet runs. no_memory_ends asked status (short_read status files reads.err.0 told may quiet);
   }
 
@@ -100,7 +116,7 @@ pub short_read_all : (old new : Told) (status : Status) → IsQuiet new → IsSh
 short_read_all old new status quiet = inr (λ over. absurd (omega (arith, over, quiet.short)))
 
 module _ (old new : Told) (asked : Command) (held : Held) (sink sink' : Taken) (read : AreRead old asked held)
-    (given : (status : Status) → IsShortOrTold old new status) (same : new.files ≡ old.files) where
+    (given : (status : Status) → IsShortOrTold old new status) (nothing : names_for asked ≡ no_names → new ≡ old) (same : new.files ≡ old.files) where
   -- what a command may do with the files that the shelf tells, it may do with what was read
   held_may : (files : List NamedBytes) → old.files ≡ Some files → MayBeDone files asked → MayDo asked held
   held_may files told may =
@@ -112,6 +128,7 @@ module _ (old new : Told) (asked : Command) (held : Held) (sink sink' : Taken) (
     ends = ends;
     too_long = given status;
     files = same;
+    nothing = nothing;
     complete = λ files told may still runs. complete (held_may files told may) runs;
   }
 
@@ -138,7 +155,8 @@ module _ (old new : Told) (source : Source) (script : Bor (List ℕ)) (texts : G
   pub run_refused : (why : RunRefused) (status : Status) → TellsWhy source.geometry texts why → status ≡ status_of why → EndsCommand old new (Run source script) sink sink status
   run_refused why status tells is =
       subst (EndsCommand old new (Run source script) sink sink) (sym is)
-      (ended old new (Run source script) (record { texts = texts; output = [] }) sink sink (run_read old source script texts reads.ok.0) (λ status. short_read_all old new status reads.ok.1) reads.files (status_of why) (why_not_run why tells)
+      (ended old new (Run source script) (record { texts = texts; output = [] }) sink sink (run_read old source script texts reads.ok.0) (λ status. short_read_all old new status reads.ok.1)
+      (λ none. absurd (a_script_is_named source script.now None none)) reads.files (status_of why) (why_not_run why tells)
       (λ may runs. inr (ap status_of (right_texts source.geometry texts may.0 why may.1 may.2 tells))))
 
 module _ (old new : Told) (source : Source) (script output : Bor (List ℕ)) (held : Held) (sink : Taken)
@@ -153,13 +171,15 @@ module _ (old new : Told) (source : Source) (script output : Bor (List ℕ)) (he
   pub check_refused : (why : CheckRefused) (status : Status) → IsUnchecked source.geometry held.texts held.output why → status ≡ status_of_check why → EndsCommand old new (Check source script output) sink sink status
   check_refused why status tells is =
       subst (EndsCommand old new (Check source script output) sink sink) (sym is)
-      (ended old new (Check source script output) held sink sink reads.ok.0 (λ status. short_read_all old new status reads.ok.1) reads.files (status_of_check why) (why_not_checked why tells)
+      (ended old new (Check source script output) held sink sink reads.ok.0 (λ status. short_read_all old new status reads.ok.1)
+      (λ none. absurd (a_script_is_named source script.now (Some output.now) none)) reads.files (status_of_check why) (why_not_checked why tells)
       (λ may runs. inr (inl (ap status_of_check (right_outputs source.geometry held.texts held.output may.0.0 may.1.0 why may.0.1 may.0.2 may.1.1 tells)))))
 
   pub not_legal : (why : WhyIllegal) (status : Status) → PrintsIllegalRun source.geometry held.texts held.output why → status ≡ status_of_illegal why → EndsCommand old new (Check source script output) sink sink status
   not_legal why status prints is =
       subst (EndsCommand old new (Check source script output) sink sink) (sym is)
-      (ended old new (Check source script output) held sink sink reads.ok.0 (λ status. short_read_all old new status reads.ok.1) reads.files (status_of_illegal why)
+      (ended old new (Check source script output) held sink sink reads.ok.0 (λ status. short_read_all old new status reads.ok.1)
+      (λ none. absurd (a_script_is_named source script.now (Some output.now) none)) reads.files (status_of_illegal why)
       (record { held = held; read = reads.ok.0; fails = inr (why, prints, refl) }, refl) (λ may runs. inr (inr (why, refl))))
 
 -- ---- a drill, which reads nothing
@@ -177,10 +197,10 @@ room_refuses shape load refused.NoMemory room tells = refl
 
 module _ (shelf : Told) (size seed : ℕ) (sink sink' : Taken) where
   pub drill_written : {T E : Type 0} (x : T) (written : List ℕ) → PrintsDrill drill_shape size seed written → WritesAll {T = T} {E = E} sink sink' written (Ok x) → EndsCommand shelf shelf (Drill size seed) sink sink' Done
-  drill_written x written prints all = ends_written shelf shelf (Drill size seed) (held_in [] no_names) sink sink' (all_hold_nothing shelf.files) (λ status. inl refl) refl x written prints all
+  drill_written x written prints all = ends_written shelf shelf (Drill size seed) (held_in [] no_names) sink sink' (all_hold_nothing shelf.files) (λ status. inl refl) (λ none. refl) refl x written prints all
 
   pub drill_cut : {T E : Type 0} (e : E) (written : List ℕ) → PrintsDrill drill_shape size seed written → WritesAll {T = T} {E = E} sink sink' written (Err e) → EndsCommand shelf shelf (Drill size seed) sink sink' WriteFault
-  drill_cut e written prints cut = ends_cut shelf shelf (Drill size seed) (held_in [] no_names) sink sink' (all_hold_nothing shelf.files) (λ status. inl refl) refl e written prints cut
+  drill_cut e written prints cut = ends_cut shelf shelf (Drill size seed) (held_in [] no_names) sink sink' (all_hold_nothing shelf.files) (λ status. inl refl) (λ none. refl) refl e written prints cut
 
 module _ (shelf : Told) (size seed : ℕ) (sink : Taken) where
   why_not_drilled : (why : RunRefused) → TellsFull drill_shape (load_of size seed) why → Ends shelf shelf (Drill size seed) sink sink (status_of why)
@@ -192,5 +212,5 @@ module _ (shelf : Told) (size seed : ℕ) (sink : Taken) where
   pub drill_refused : (why : RunRefused) (status : Status) → TellsFull drill_shape (load_of size seed) why → status ≡ status_of why → EndsCommand shelf shelf (Drill size seed) sink sink status
   drill_refused why status tells is =
       subst (EndsCommand shelf shelf (Drill size seed) sink sink) (sym is)
-      (ended shelf shelf (Drill size seed) (held_in [] no_names) sink sink (all_hold_nothing shelf.files) (λ status. inl refl) refl (status_of why) (why_not_drilled why tells)
+      (ended shelf shelf (Drill size seed) (held_in [] no_names) sink sink (all_hold_nothing shelf.files) (λ status. inl refl) (λ none. refl) refl (status_of why) (why_not_drilled why tells)
       (λ may runs. inr (ap status_of (room_refuses drill_shape (load_of size seed) why may tells))))

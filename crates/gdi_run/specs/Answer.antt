@@ -28,7 +28,7 @@ use Rattle.drill_run.specs.Drills.{PrintsDrill, drill_shape, load_of}
 use Rattle.gdi_run.specs.declared.status.FileKind.{FileKind}
 use Rattle.gdi_run.specs.declared.status.Status.{Status}
 use Rattle.gdi_run.specs.declared.status.Status.TheVariants.{Done, Usage, ReadFault, TooLong, WriteFault, NoMemory}
-use Rattle.gdi_run.specs.Commands.{FileNames, Held, Names, held_in, name_of, names_for}
+use Rattle.gdi_run.specs.Commands.{FileNames, Held, Names, held_in, name_of, names_for, no_names}
 use Rattle.gdi_run.specs.Reading.{AreUnread}
 use Rattle.gdi_run.specs.Statuses.{status_of, status_of_check, status_of_illegal}
 
@@ -110,6 +110,8 @@ pub record EndsCommand (shelf shelf' : Told) (asked : Command) (sink sink' : Tak
   pub ends : Ends shelf shelf' asked sink sink' status
   pub too_long : (shelf' ≡ shelf) ⊎ (longest_file < shelf'.given → (kind : FileKind) × (status ≡ TooLong kind))
   pub files : shelf'.files ≡ shelf.files
+  -- a command that names no file reads nothing
+  pub nothing : names_for asked ≡ no_names → shelf' ≡ shelf
   pub complete : (files : List NamedBytes) → shelf.files ≡ Some files → MayBeDone files asked → shelf'.halted ≡ false → ¬ (Rose sink.faults sink'.faults) → IsEnd asked status
 
 -- why words that name a command end with a status
@@ -127,6 +129,8 @@ pub record IsAnswer (words : List Text) (shelf shelf' : Told) (sink sink' : Take
   pub too_long : (shelf' ≡ shelf) ⊎ (longest_file < shelf'.given → (kind : FileKind) × (status ≡ TooLong kind))
   -- the files stay as they are told
   pub files : shelf'.files ≡ shelf.files
+  -- a command that names no file reads nothing
+  pub nothing : (name : CommandName) (others : List Text) (asked : Command) → Names words name others → Asks name others asked → names_for asked ≡ no_names → shelf' ≡ shelf
   -- words that ask for a command which may be done, where neither shelf nor sink fails: it is done, or memory isn't found; or a
   -- check tells that the output isn't legal
   pub complete : (name : CommandName) (others : List Text) (asked : Command) (files : List NamedBytes) → Names words name others → Asks name others asked

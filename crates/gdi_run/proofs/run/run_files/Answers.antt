@@ -1,7 +1,7 @@
-use Rattle.std.proofs.Common.{[], subst, sym}
+use Rattle.std.proofs.Common.{[], None, subst, sym}
 use Rattle.command_words.specs.declared.command.Command.TheVariants.{Run}
 use Rattle.plain_run.specs.Running.{PrintsLegalRun, TellsWhy}
-use Rattle.gdi_run.proofs.Ended.{ends_cut, ends_unread, ends_written, run_read, run_refused, short_read_all}
+use Rattle.gdi_run.proofs.Ended.{a_script_is_named, ends_cut, ends_unread, ends_written, run_read, run_refused, short_read_all}
 use Rattle.gdi_run.proofs.run.run_files.Goals as goal
 
 pub returns-in-Err : goal.returns-in-Err
@@ -20,7 +20,8 @@ returns-in-Ok-write_all g c =
     let legal : PrintsLegalRun c.args.source.now.geometry c.in-Ok.files c.in-Ok-run_texts.output =
     subst (λ texts. PrintsLegalRun c.args.source.now.geometry texts c.in-Ok-run_texts.output) c.texts.ensures c.in-Ok-run_texts.ensures in
     ends_written old new (Run c.args.source.now c.args.script) (record { texts = c.in-Ok.files; output = [] }) (g.K.Sink.taken c.args.out.now) (g.K.Sink.taken c.write_all.new.out)
-    (run_read old c.args.source.now c.args.script c.in-Ok.files c.in-Ok.ensures.ok.0) (λ status. short_read_all old new status c.in-Ok.ensures.ok.1) c.in-Ok.ensures.files
+    (run_read old c.args.source.now c.args.script c.in-Ok.files c.in-Ok.ensures.ok.0) (λ status. short_read_all old new status c.in-Ok.ensures.ok.1)
+    (λ none. absurd (a_script_is_named c.args.source.now c.args.script.now None none)) c.in-Ok.ensures.files
     c.in-Ok-write_all.field-0 c.as_slice.result.now (subst (PrintsLegalRun c.args.source.now.geometry c.in-Ok.files) (sym c.as_slice.ensures) legal) c.in-Ok-write_all.ensures
 
 pub returns : goal.returns
@@ -30,5 +31,6 @@ returns g c =
     let legal : PrintsLegalRun c.args.source.now.geometry c.in-Ok.files c.in-Ok-run_texts.output =
     subst (λ texts. PrintsLegalRun c.args.source.now.geometry texts c.in-Ok-run_texts.output) c.texts.ensures c.in-Ok-run_texts.ensures in
     ends_cut old new (Run c.args.source.now c.args.script) (record { texts = c.in-Ok.files; output = [] }) (g.K.Sink.taken c.args.out.now) (g.K.Sink.taken c.write_all.new.out)
-    (run_read old c.args.source.now c.args.script c.in-Ok.files c.in-Ok.ensures.ok.0) (λ status. short_read_all old new status c.in-Ok.ensures.ok.1) c.in-Ok.ensures.files
+    (run_read old c.args.source.now c.args.script c.in-Ok.files c.in-Ok.ensures.ok.0) (λ status. short_read_all old new status c.in-Ok.ensures.ok.1)
+    (λ none. absurd (a_script_is_named c.args.source.now c.args.script.now None none)) c.in-Ok.ensures.files
     c.in-Err-write_all.field-0 c.as_slice.result.now (subst (PrintsLegalRun c.args.source.now.geometry c.in-Ok.files) (sym c.as_slice.ensures) legal) c.in-Err-write_all.ensures
