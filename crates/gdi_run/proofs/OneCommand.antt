@@ -1,27 +1,28 @@
 -- Words ask for one command, and aren't refused then.
-use Rattle.std.proofs.Common.{◌≡◌, ℕ, List, [], ◌∷◌, codes, Option, Some, None, refl, sym, ap, subst, ◌∙◌}
+use Rattle.std.proofs.Common.{◌≡◌, ◌≤◌, ℕ, List, [], ◌∷◌, map, codes, Option, Some, None, refl, sym, ap, subst, ◌∙◌, arith}
 use Rattle.std.specs.Option.{option_map, option_to_list}
+use Rattle.std.proofs.lemmas.Bool.{false≢true}
 use Rattle.std.proofs.lemmas.Fmt.{decimal_injective}
-use Rattle.gdi_kinds.specs.declared.named_bytes.NamedBytes.{NamedBytes}
 use Rattle.rma_layout.specs.Shape.{Shape, standard_shape}
 use Rattle.rma_layout.specs.Ranges.{refusal_of}
-use Rattle.gdi_io.specs.Files.{bytes_of}
-use Rattle.command_words.specs.Items.{Text, Item, values_of, names_of}
-use Rattle.command_words.specs.Commands.{AreChosen, Asks, HasNumbers, HasSource, IsChosen, IsRefused, load_options}
+use Rattle.rma_layout.specs.declared.geometry.BadGeometry.{BadGeometry}
+use Rattle.command_words.specs.Items.{Text, Item, Spells, values_of, names_of}
+use Rattle.command_words.specs.Items as spell
+use Rattle.command_words.specs.Commands.{AreChosen, AreDrill, Asks, HasNumbers, HasSource, IsAsked, IsChosen, IsRefused, command_text, load_options}
 use Rattle.command_words.specs.declared.command.Command.{Command}
 use Rattle.command_words.specs.declared.command.Command.TheVariants.{Run, Check, Report, Drill}
+use Rattle.command_words.specs.declared.command.CommandName.{CommandName}
 use Rattle.command_words.specs.declared.command.CommandName.TheVariants as named
 use Rattle.command_words.specs.declared.source.Source.{Source}
 use Rattle.command_words.specs.declared.usage.UsageKind.{UsageKind}
 use Rattle.command_words.specs.declared.usage.UsageKind.TheVariants as usage
 use Rattle.command_words.proofs.Meanings.{same_items}
-use Rattle.command_words.proofs.Refusals.{load_are}
-use Rattle.plain_run.specs.Given.{Given}
+use Rattle.command_words.proofs.Refusals.{load_are, none_are}
 use Rattle.plain_run.specs.Loading.{HasRoom}
-use Rattle.plain_run.specs.Running.{AreTexts}
-use Rattle.gdi_run.specs.declared.status.FileKind.TheVariants as file
-use Rattle.gdi_run.specs.Commands.{name_for, texts_in}
-use Rattle.gdi_run.specs.Answer.{MayBeDone, MayRun}
+use Rattle.drill_run.specs.Drills.{drill_shape, load_of}
+use Rattle.gdi_run.specs.declared.status.Status.{Status}
+use Rattle.gdi_run.specs.Commands.{FileNames, Held, IsDone, names_for, names_with}
+use Rattle.gdi_run.specs.Answer.{AreRight, IsEnd, MayDo}
 
 abbrev first_of : {X : Type 0} → List X → Option X
 first_of [] = None
@@ -73,69 +74,202 @@ abbrev first_name : List Text → Text
 first_name [] = []
 first_name (name ∷ names) = name
 
--- ---- a run's files, by either
+abbrev second_name : List Text → Text
+second_name [] = []
+second_name (name ∷ names) = first_name names
 
-module _ (one other : Source) (script text : Text) (same : SameSource one other) (named_same : script ≡ text) where
-  same_name : (kind : _) → name_for one script kind ≡ name_for other text kind
-  same_name file.Vertices = same.vertices
-  same_name file.Edges = same.edges
-  same_name file.Script = ap Some named_same
-  same_name file.Output = refl
+same_names : (one other : Source) (script text : Text) (output checked : Option Text) → SameSource one other → script ≡ text → output ≡ checked
+    → names_with one script output ≡ names_with other text checked
+same_names one other script text output checked same scripts outputs =
+    let with_vertices : Option Text → FileNames = λ v. record { vertices = v; edges = option_map (λ name. name.now) one.edges; script = Some script; output = output } in
+    let with_edges : Option Text → FileNames = λ e. record { vertices = option_map (λ name. name.now) other.vertices; edges = e; script = Some script; output = output } in
+    ap with_vertices same.vertices ∙ ap with_edges same.edges ∙ ap (λ (t : Text). names_with other t output) scripts ∙ ap (λ (o : Option Text). names_with other text o) outputs
 
-  held_by : (files : List NamedBytes) (source : Source) → option_map (λ name. bytes_of files name.now) source.vertices ≡ option_map (bytes_of files) (option_map (λ name. name.now) source.vertices)
-  held_by files source = elim source.vertices as (λ o. option_map (λ name. bytes_of files name.now) o ≡ option_map (bytes_of files) (option_map (λ name. name.now) o)) [ None ↦ refl | Some name ↦ refl ]
+-- ---- what words ask for, twice
 
-  edges_held_by : (files : List NamedBytes) (source : Source) → option_map (λ name. bytes_of files name.now) source.edges ≡ option_map (bytes_of files) (option_map (λ name. name.now) source.edges)
-  edges_held_by files source = elim source.edges as (λ o. option_map (λ name. bytes_of files name.now) o ≡ option_map (bytes_of files) (option_map (λ name. name.now) o)) [ None ↦ refl | Some name ↦ refl ]
+-- the words of a drill give one size and one seed
+one_drill : (names : List Text) (size seed more next : ℕ) → AreDrill names size seed → AreDrill names more next → (size ≡ more) × (seed ≡ next)
+one_drill [] size seed more next one other = absurd one
+one_drill (first ∷ []) size seed more next one other = absurd one
+one_drill (first ∷ second ∷ []) size seed more next one other =
+    (decimal_injective size more one.0.1 other.0.1 (sym one.0.0 ∙ other.0.0), decimal_injective seed next one.1.1 other.1.1 (sym one.1.0 ∙ other.1.0))
+one_drill (first ∷ second ∷ third ∷ rest) size seed more next one other = absurd one
 
-  same_texts : (files : List NamedBytes) → texts_in files one script ≡ texts_in files other text
-  same_texts files =
-      let vertices : option_map (λ name. bytes_of files name.now) one.vertices ≡ option_map (λ name. bytes_of files name.now) other.vertices =
-      held_by files one ∙ ap (option_map (bytes_of files)) same.vertices ∙ sym (held_by files other) in
-      let edges : option_map (λ name. bytes_of files name.now) one.edges ≡ option_map (λ name. bytes_of files name.now) other.edges =
-      edges_held_by files one ∙ ap (option_map (bytes_of files)) same.edges ∙ sym (edges_held_by files other) in
-      let with_vertices : Option (List ℕ) → Given = λ v. record { vertices = v; edges = option_map (λ name. bytes_of files name.now) one.edges; script = bytes_of files script } in
-      let with_edges : Option (List ℕ) → Given = λ e. record { vertices = option_map (λ name. bytes_of files name.now) other.vertices; edges = e; script = bytes_of files script } in
-      let with_script : List ℕ → Given = λ t. record { vertices = option_map (λ name. bytes_of files name.now) other.vertices; edges = option_map (λ name. bytes_of files name.now) other.edges; script = t } in
-      ap with_vertices vertices ∙ ap with_edges edges ∙ ap with_script (ap (bytes_of files) named_same)
+in_range : (names : List Text) (size seed : ℕ) → AreDrill names size seed → (1 ≤ size) × (size ≤ 10000)
+in_range [] size seed are = absurd are
+in_range (first ∷ []) size seed are = absurd are
+in_range (first ∷ second ∷ []) size seed are = (are.2, are.3)
+in_range (first ∷ second ∷ third ∷ rest) size seed are = absurd are
 
-  may_run_same : (files : List NamedBytes) → MayRun files other text → MayRun files one script
-  may_run_same files may = (
-    λ kind name is. may.0 kind name (sym (same_name kind) ∙ is),
-    (
-      may.1.0,
-      subst (λ g. AreTexts g (texts_in files one script) may.1.0) (sym same.geometry) (subst (λ t. AreTexts other.geometry t may.1.0) (sym (same_texts files)) may.1.1),
-      subst (λ g. HasRoom g may.1.0.load) (sym same.geometry) may.1.2,
-    ),
-  )
+pub drill_in_range : (name : CommandName) (words : List Text) (size seed : ℕ) → IsDone name → Asks name words (Drill size seed) → (1 ≤ size) × (size ≤ 10000)
+drill_in_range named.Run words size seed done asks = absurd asks.2
+drill_in_range named.Check words size seed done asks = absurd asks.2
+drill_in_range named.Drill words size seed done asks = in_range (names_of asks.0) size seed asks.2
+drill_in_range named.Report words size seed done asks = absurd done
 
--- what may be done of what is asked for may be done of the run that was found
-pub may_same : (files : List NamedBytes) (words : List Text) (run asked : Command) → Asks named.Run words run → Asks named.Run words asked → MayBeDone files asked → MayBeDone files run
-may_same files words (Run one script) (Run other text) (items, form, is) (others, others_form, others_is) may =
+-- two commands that read the same files, need the same and end alike
+pub record AreAlike (one other : Command) : Type 0 where
+  pub names : names_for other ≡ names_for one
+  pub may : (held : Held) → MayDo other held → MayDo one held
+  pub ends : (status : Status) → IsEnd one status → IsEnd other status
+
+pub alike : (name : CommandName) (words : List Text) (one other : Command) → IsDone name → Asks name words one → Asks name words other → AreAlike one other
+alike named.Run words (Run one script) (Run other text) done (items, form, is) (others, others_form, others_is) =
     let items_same : others ≡ items = same_items load_options load_are.are_names others_form.spelled form.spelled in
     let source : HasSource items other = subst (λ xs. HasSource xs other) items_same others_is.0 in
-    let names : script.now ∷ [] ≡ text.now ∷ [] = sym is.1 ∙ ap names_of (sym items_same) ∙ others_is.1 in
-    may_run_same one other script.now text.now (same_source items one other is.0 source) (ap first_name names) files may
-may_same files words run (Check source script output) asks (items, form, is) may = absurd is
-may_same files words run (Report source) asks (items, form, is) may = absurd is
-may_same files words run (Drill size seed) asks (items, form, is) may = absurd is
-may_same files words (Check source script output) asked (items, form, is) asks may = absurd is
-may_same files words (Report source) asked (items, form, is) asks may = absurd is
-may_same files words (Drill size seed) asked (items, form, is) asks may = absurd is
+    let names : text.now ∷ [] ≡ script.now ∷ [] = sym others_is.1 ∙ ap names_of items_same ∙ is.1 in
+    let same : SameSource other one = same_source items other one source is.0 in
+    record {
+      names = same_names other one text.now script.now None None same (ap first_name names) refl;
+      may = λ held may. subst (λ g. AreRight g held.texts) same.geometry may;
+      ends = λ status end. end;
+    }
+alike named.Check words (Check one script output) (Check other text checked) done (items, form, is) (others, others_form, others_is) =
+    let items_same : others ≡ items = same_items load_options load_are.are_names others_form.spelled form.spelled in
+    let source : HasSource items other = subst (λ xs. HasSource xs other) items_same others_is.0 in
+    let names : text.now ∷ checked.now ∷ [] ≡ script.now ∷ output.now ∷ [] = sym others_is.1 ∙ ap names_of items_same ∙ is.1 in
+    let same : SameSource other one = same_source items other one source is.0 in
+    record {
+      names = same_names other one text.now script.now (Some checked.now) (Some output.now) same (ap first_name names) (ap Some (ap second_name names));
+      may = λ held may. (subst (λ g. AreRight g held.texts) same.geometry may.0, may.1);
+      ends = λ status end. end;
+    }
+alike named.Run words (Check source script output) other done (items, form, is) asks = absurd is
+alike named.Run words (Report source) other done (items, form, is) asks = absurd is
+alike named.Run words (Drill size seed) other done (items, form, is) asks = absurd is
+alike named.Run words (Run source script) (Check other text checked) done asked (items, form, is) = absurd is
+alike named.Run words (Run source script) (Report other) done asked (items, form, is) = absurd is
+alike named.Run words (Run source script) (Drill size seed) done asked (items, form, is) = absurd is
+alike named.Check words (Run source script) other done (items, form, is) asks = absurd is
+alike named.Check words (Report source) other done (items, form, is) asks = absurd is
+alike named.Check words (Drill size seed) other done (items, form, is) asks = absurd is
+alike named.Check words (Check source script output) (Run other text) done asked (items, form, is) = absurd is
+alike named.Check words (Check source script output) (Report other) done asked (items, form, is) = absurd is
+alike named.Check words (Check source script output) (Drill size seed) done asked (items, form, is) = absurd is
+alike named.Drill words (Drill size seed) (Drill more next) done (items, form, is) (others, others_form, others_is) =
+    let items_same : others ≡ items = same_items [] none_are.are_names others_form.spelled form.spelled in
+    let same = one_drill (names_of items) size seed more next is (subst (λ xs. AreDrill (names_of xs) more next) items_same others_is) in
+    record {
+      names = refl;
+      may = λ held may. subst (λ n. HasRoom drill_shape (load_of n seed)) (sym same.0) (subst (λ s. HasRoom drill_shape (load_of more s)) (sym same.1) may);
+      ends = λ status end. end;
+    }
+alike named.Drill words (Run source script) other done (items, form, is) asks = absurd is
+alike named.Drill words (Check source script output) other done (items, form, is) asks = absurd is
+alike named.Drill words (Report source) other done (items, form, is) asks = absurd is
+alike named.Drill words (Drill size seed) (Run other text) done asked (items, form, is) = absurd is
+alike named.Drill words (Drill size seed) (Check other text checked) done asked (items, form, is) = absurd is
+alike named.Drill words (Drill size seed) (Report other) done asked (items, form, is) = absurd is
+alike named.Report words one other done asked asks = absurd done
 
-pub not_refused : (words : List Text) (asked : Command) (kind : UsageKind) → Asks named.Run words asked → IsRefused named.Run words kind → ⊥
-not_refused words asked usage.Command asks why = why
-not_refused words asked usage.Words (items, form, is) why = why items form
-not_refused words (Run source script) usage.Number (items, form, is) (others, others_form, bad) =
-    bad source.geometry (subst (λ xs. HasNumbers xs source.geometry) (same_items load_options load_are.are_names form.spelled others_form.spelled) is.0.numbers)
-not_refused words (Run source script) (usage.Geometry bad) (items, form, is) (others, others_form, (shape, numbers, unfit)) =
-    let mine : HasNumbers others source.geometry = subst (λ xs. HasNumbers xs source.geometry) (same_items load_options load_are.are_names form.spelled others_form.spelled) is.0.numbers in
-    let same : source.geometry ≡ shape = same_shape _ _ _ _ _ source.geometry shape mine numbers in
-    let no : None ≡ Some bad = sym is.0.fits ∙ ap refusal_of same ∙ unfit in
+-- ---- what words ask for isn't refused
+
+-- a command that loads
+abbrev IsLoading : CommandName → Type 0
+IsLoading named.Run = Unit {0}
+IsLoading named.Check = Unit {0}
+IsLoading name = ⊥
+
+has_source : (name : CommandName) (items : List Item) (asked : Command) → IsLoading name → IsAsked name items asked → (source : Source) × HasSource items source
+has_source named.Run items (Run source script) done is = (source, is.0)
+has_source named.Check items (Check source script output) done is = (source, is.0)
+has_source named.Run items (Check source script output) done is = absurd is
+has_source named.Run items (Report source) done is = absurd is
+has_source named.Run items (Drill size seed) done is = absurd is
+has_source named.Check items (Run source script) done is = absurd is
+has_source named.Check items (Report source) done is = absurd is
+has_source named.Check items (Drill size seed) done is = absurd is
+has_source named.Report items asked loading is = absurd loading
+has_source named.Drill items asked loading is = absurd loading
+
+-- its numbers make a geometry
+module _ (items others : List Item) (words : List Text) (spelled : Spells load_options words items) (also : Spells load_options words others) (source : Source) (has : HasSource items source) where
+  numbers : HasNumbers others source.geometry
+  numbers = subst (λ xs. HasNumbers xs source.geometry) (same_items load_options load_are.are_names spelled also) has.numbers
+
+  no_other : (bad : BadGeometry) (shape : Shape) → HasNumbers others shape → refusal_of shape ≡ Some bad → ⊥
+  no_other bad shape have unfit =
+      let same : source.geometry ≡ shape = same_shape _ _ _ _ _ source.geometry shape numbers have in
+      let no : None ≡ Some bad = sym has.fits ∙ ap refusal_of same ∙ unfit in
+      absurd cc
+
+named_alone : (option : Text) (words : List Text) → values_of option (map spell.Named words) ≡ []
+named_alone option [] = refl
+named_alone option (word ∷ words) = named_alone option words
+
+-- words without options give the standard geometry, which is right
+no_values : {words : List Text} {items : List Item} (option : Text) → Spells [] words items → values_of option items ≡ []
+no_values option spell.none = refl
+no_values option (spell.name plain spelled) = no_values option spelled
+no_values option (spell.apart there plain spelled) = absurd (false≢true there)
+no_values option (spell.joined there spelled) = absurd (false≢true there)
+no_values option (spell.rest {words}) = named_alone option words
+
+no_geometry : (words : List Text) (items : List Item) → Spells [] words items → (bad : BadGeometry) (shape : Shape) → HasNumbers items shape → refusal_of shape ≡ Some bad → ⊥
+no_geometry words items spelled bad shape have unfit =
+    let none_of : (option : Text) → values_of option items ≡ [] = λ option. no_values option spelled in
+    let usual : AreChosen [] [] [] [] [] standard_shape = record { of_ranks = refl; of_blocks = refl; of_words = refl; of_buckets = refl; of_slots = refl } in
+    let chosen : AreChosen [] [] [] [] [] shape = record {
+      of_ranks = subst (λ ts. IsChosen ts standard_shape.ranks shape.ranks) (none_of (codes "ranks")) have.of_ranks;
+      of_blocks = subst (λ ts. IsChosen ts standard_shape.blocks shape.blocks) (none_of (codes "blocks")) have.of_blocks;
+      of_words = subst (λ ts. IsChosen ts standard_shape.words shape.words) (none_of (codes "words")) have.of_words;
+      of_buckets = subst (λ ts. IsChosen ts standard_shape.buckets shape.buckets) (none_of (codes "buckets")) have.of_buckets;
+      of_slots = subst (λ ts. IsChosen ts standard_shape.slots shape.slots) (none_of (codes "slots")) have.of_slots;
+    } in
+    let same : standard_shape ≡ shape = same_shape [] [] [] [] [] standard_shape shape usual chosen in
+    let fits : refusal_of standard_shape ≡ None = refl in
+    let no : None ≡ Some bad = sym fits ∙ ap refusal_of same ∙ unfit in
     absurd cc
-not_refused words (Check source script output) usage.Number (items, form, is) why = absurd is
-not_refused words (Check source script output) (usage.Geometry bad) (items, form, is) why = absurd is
-not_refused words (Report source) usage.Number (items, form, is) why = absurd is
-not_refused words (Report source) (usage.Geometry bad) (items, form, is) why = absurd is
-not_refused words (Drill size seed) usage.Number (items, form, is) why = absurd is
-not_refused words (Drill size seed) (usage.Geometry bad) (items, form, is) why = absurd is
+
+pub not_refused : (name : CommandName) (words : List Text) (asked : Command) (kind : UsageKind) → IsDone name → Asks name words asked → IsRefused name words kind → ⊥
+not_refused name words asked usage.Command done asks why = why
+not_refused name words asked usage.Words done (items, form, is) why = why items form
+not_refused named.Run words asked usage.Number done (items, form, is) (others, others_form, bad) =
+    let has = has_source named.Run items asked tt is in
+    bad has.0.geometry (numbers items others words form.spelled others_form.spelled has.0 has.1)
+not_refused named.Check words asked usage.Number done (items, form, is) (others, others_form, bad) =
+    let has = has_source named.Check items asked tt is in
+    bad has.0.geometry (numbers items others words form.spelled others_form.spelled has.0 has.1)
+not_refused named.Run words asked (usage.Geometry bad) done (items, form, is) (others, others_form, (shape, have, unfit)) =
+    let has = has_source named.Run items asked tt is in
+    no_other items others words form.spelled others_form.spelled has.0 has.1 bad shape have unfit
+not_refused named.Check words asked (usage.Geometry bad) done (items, form, is) (others, others_form, (shape, have, unfit)) =
+    let has = has_source named.Check items asked tt is in
+    no_other items others words form.spelled others_form.spelled has.0 has.1 bad shape have unfit
+not_refused named.Report words asked usage.Number done asks why = absurd done
+not_refused named.Report words asked (usage.Geometry bad) done asks why = absurd done
+not_refused named.Drill words (Drill size seed) usage.Number done (items, form, is) (others, others_form, bad) =
+    bad size seed (subst (λ xs. AreDrill (names_of xs) size seed) (same_items [] none_are.are_names form.spelled others_form.spelled) is)
+not_refused named.Drill words (Run source script) usage.Number done (items, form, is) why = absurd is
+not_refused named.Drill words (Check source script output) usage.Number done (items, form, is) why = absurd is
+not_refused named.Drill words (Report source) usage.Number done (items, form, is) why = absurd is
+not_refused named.Drill words asked (usage.Geometry bad) done asks (others, others_form, (shape, have, unfit)) = no_geometry words others others_form.spelled bad shape have unfit
+
+-- ---- the words of a command are of one
+
+abbrev front : List ℕ → ℕ
+front [] = 0
+front (byte ∷ bytes) = byte
+
+check_is_not_drill : codes "check" ≡ codes "drill" → ⊥
+check_is_not_drill is =
+    let fronts : 99 ≡ 100 = ap front is in
+    omega (arith, fronts)
+
+pub same_command : (one other : CommandName) → command_text one ≡ command_text other → one ≡ other
+same_command named.Run named.Run is = refl
+same_command named.Run named.Check is = absurd (cc)
+same_command named.Run named.Report is = absurd (cc)
+same_command named.Run named.Drill is = absurd (cc)
+same_command named.Check named.Run is = absurd (cc)
+same_command named.Check named.Check is = refl
+same_command named.Check named.Report is = absurd (cc)
+same_command named.Check named.Drill is = absurd (check_is_not_drill is)
+same_command named.Report named.Run is = absurd (cc)
+same_command named.Report named.Check is = absurd (cc)
+same_command named.Report named.Report is = refl
+same_command named.Report named.Drill is = absurd (cc)
+same_command named.Drill named.Run is = absurd (cc)
+same_command named.Drill named.Check is = absurd (check_is_not_drill (sym is))
+same_command named.Drill named.Report is = absurd (cc)
+same_command named.Drill named.Drill is = refl

@@ -1,5 +1,5 @@
--- Reading the files of a run.
-use Rattle.std.specs.Prelude.{◌≡◌, ℕ, ◌<◌, ◌≤◌, false, IsTrue, List, [], ◌∷◌, length, Option, Some, IfSome, Result, IfOk, IfErr}
+-- Reading the files of a command.
+use Rattle.std.specs.Prelude.{◌≡◌, ℕ, ◌<◌, ◌≤◌, false, IsTrue, List, [], ◌∷◌, length, Option, Some, IfSome, Result, IfOk, IfErr, OnOk}
 use Rattle.std.specs.List.{AllByRecursion}
 use Rattle.std.specs.Option.{option_map}
 use Rattle.gdi_io.specs.Faults.{Rose}
@@ -7,13 +7,12 @@ use Rattle.gdi_io.specs.Files.{bytes_of}
 use Rattle.gdi_io.specs.Shelf.{Told, IsHaltedAt}
 use Rattle.gdi_io.specs.Whole.{longest_file}
 use Rattle.command_words.specs.Items.{Text}
-use Rattle.command_words.specs.declared.source.Source.{Source}
-use Rattle.plain_run.specs.Given.{Given}
+use Rattle.gdi_kinds.specs.declared.named_bytes.NamedBytes.{NamedBytes}
 use Rattle.gdi_run.specs.declared.status.FileKind.{FileKind}
 use Rattle.gdi_run.specs.declared.status.FileKind.TheVariants as file
 use Rattle.gdi_run.specs.declared.status.Status.{Status}
 use Rattle.gdi_run.specs.declared.status.Status.TheVariants.{ReadFault, TooLong, NoMemory}
-use Rattle.gdi_run.specs.Commands.{name_for, texts_in}
+use Rattle.gdi_run.specs.Commands.{FileNames, name_of}
 
 -- why a file of this kind and name isn't read
 abbrev pub IsUnread : Told → Told → FileKind → Text → Status → Type 0
@@ -64,20 +63,21 @@ earlier file.Script = file.Vertices ∷ file.Edges ∷ []
 earlier file.Output = file.Vertices ∷ file.Edges ∷ file.Script ∷ []
 
 -- a file of this kind that is read is short enough, where the shelf tells it
-abbrev pub IsShort : Told → Source → Text → FileKind → Type 0
-IsShort shelf source script kind = IfSome shelf.files (λ files. IfSome (name_for source script kind) (λ name. length (bytes_of files name) ≤ longest_file))
+abbrev pub IsShort : Told → FileNames → FileKind → Type 0
+IsShort shelf names kind = IfSome shelf.files (λ files. IfSome (name_of names kind) (λ name. length (bytes_of files name) ≤ longest_file))
 
--- why the files of a run aren't read: one of them isn't, and those before it are short
-pub record AreUnread (old new : Told) (source : Source) (script : Text) (status : Status) : Type 0 where
+-- why the files of these names aren't read: one of them isn't, and those before it are short
+pub record AreUnread (old new : Told) (names : FileNames) (status : Status) : Type 0 where
   pub kind : FileKind
   pub name : Text
-  pub is : name_for source script kind ≡ Some name
+  pub is : name_of names kind ≡ Some name
   pub why : IsUnread old new kind name status
-  pub before : AllByRecursion (IsShort old source script) (earlier kind)
+  pub before : AllByRecursion (IsShort old names) (earlier kind)
 
--- reading the files of a run, one after the other
-pub record ReadsFiles (old new : Told) (source : Source) (script : Text) (result : Result Given Status) : Type 0 where
+-- reading the files of these names, one after the other, for what they hold
+pub record ReadsFiles {X : Type 0} (old new : Told) (names : FileNames) (held : List NamedBytes → X) (result : Result X Status) : Type 0 where
   pub later : old.faults ≤ new.faults
   pub files : new.files ≡ old.files
-  pub ok : IfOk result (λ texts. IfSome old.files (λ files. texts ≡ texts_in files source script) × IsQuiet new)
-  pub err : IfErr result (λ status. AreUnread old new source script status × IsToldOf new status)
+  pub ok : IfOk result (λ x. IfSome old.files (λ files. x ≡ held files) × IsQuiet new)
+  pub short : OnOk result (AllByRecursion (IsShort old names) (earlier file.Output))
+  pub err : IfErr result (λ status. AreUnread old new names status × IsToldOf new status)

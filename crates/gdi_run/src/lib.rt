@@ -1,7 +1,10 @@
 //! The top call: from the words of a command line to the bytes of its output.
 #![tactic(auto)]
 
+mod check;
+mod drilling;
 mod reading;
+mod refusals;
 mod run;
 mod status;
 mod top;

@@ -1,6 +1,7 @@
-ghost use Rattle.std.specs.Prelude.{◌≡◌};
+ghost use Rattle.std.specs.Prelude.{◌≡◌, None, Some};
 ghost use Rattle.std.specs.Option.{option_map};
 ghost use Rattle.plain_run.specs.Given.{given};
+ghost use Rattle.gdi_run.specs.Commands.{held_in, names_with, texts_in};
 ghost use Rattle.gdi_run.specs.Reading.{ReadsFile, ReadsFiles, ReadsGiven};
 
 use crate::{FileKind, Status};
@@ -40,6 +41,21 @@ impl RunFiles {
     }
 }
 
+/// What the files of a check hold.
+#[derive(Drop)]
+pub(crate) struct CheckFiles {
+    pub(crate) run: RunFiles,
+    pub(crate) output: Bytes,
+}
+
+impl Model for CheckFiles {
+    ghost use Rattle.gdi_run.specs.Commands.{Held};
+
+    ghost Value = { Held };
+
+    ghost view = { λ files. record { texts = files.run; output = files.output } };
+}
+
 fn text_of(bytes: &Option<Bytes>) -> Option<&[u8]>
     ensures { option_map (λ text. text.now) result ≡ bytes.now }
 {
@@ -56,7 +72,8 @@ pub(crate) fn read_files<F: Shelf>(
     source: &Source,
     script: &str,
 ) -> Result<RunFiles, Status>
-    ensures { ReadsFiles (F.told shelf.old) (F.told shelf.new) source.now script.now result }
+    ensures { let names = names_with source.now script.now None in
+        ReadsFiles (F.told shelf.old) (F.told shelf.new) names (λ files. texts_in files names) result }
 {
     let vertices = read_given(alloc, shelf, FileKind::Vertices, source.vertices)?;
     let edges = read_given(alloc, shelf, FileKind::Edges, source.edges)?;
@@ -66,6 +83,24 @@ pub(crate) fn read_files<F: Shelf>(
             edges,
             script,
         }),
+        Err(status) => Err(status),
+    }
+}
+
+/// Reads the files of a check: those of a run, and the output.
+pub(crate) fn read_check_files<F: Shelf>(
+    alloc: Global,
+    shelf: &mut F,
+    source: &Source,
+    script: &str,
+    output: &str,
+) -> Result<CheckFiles, Status>
+    ensures { let names = names_with source.now script.now (Some output.now) in
+        ReadsFiles (F.told shelf.old) (F.told shelf.new) names (λ files. held_in files names) result }
+{
+    let run = read_files(alloc, shelf, source, script)?;
+    match read_file(alloc, shelf, FileKind::Output, output) {
+        Ok(output) => Ok(CheckFiles { run, output }),
         Err(status) => Err(status),
     }
 }

@@ -1,12 +1,12 @@
-ghost use Rattle.std.specs.Prelude.{◌≡◌};
-ghost use Rattle.gdi_run.specs.Answer.{EndsRun, kind_of_file, status_of};
+ghost use Rattle.command_words.specs.declared.command.Command.TheVariants.{Run};
+ghost use Rattle.gdi_run.specs.Answer.{EndsCommand};
 
+use crate::Status;
 use crate::reading::read_files;
-use crate::{FileKind, Status};
-use bulk_load::LoadFile;
+use crate::refusals::status_of;
 use command_words::Source;
 use gdi_io::{Shelf, Sink, write_all};
-use plain_run::{RunRefused, run_texts};
+use plain_run::run_texts;
 use std::alloc::Global;
 
 /// Loads, runs a script and writes what that prints.
@@ -17,7 +17,7 @@ pub(crate) fn run_files<F: Shelf, K: Sink>(
     shelf: &mut F,
     out: &mut K,
 ) -> Status
-    ensures { EndsRun (F.told shelf.old) (F.told shelf.new) source.now script.now (K.taken out.old) (K.taken out.new) result }
+    ensures { EndsCommand (F.told shelf.old) (F.told shelf.new) (Run source.now script.entry) (K.taken out.old) (K.taken out.new) result }
 {
     let files = match read_files(alloc, shelf, source, script) {
         Ok(files) => files,
@@ -30,32 +30,5 @@ pub(crate) fn run_files<F: Shelf, K: Sink>(
     match write_all(out, output.as_slice()) {
         Ok(()) => Status::Done,
         Err(_) => Status::WriteFault,
-    }
-}
-
-fn status_of(refused: RunRefused) -> Status
-    ensures { result ≡ status_of refused }
-{
-    match refused {
-        RunRefused::BadLoad { file, row, kind } => Status::BadLoad {
-            file: kind_of_file(file),
-            row,
-            kind: kind.number(),
-        },
-        RunRefused::BadScript { line, kind } => Status::BadScript { line, kind },
-        RunRefused::LoadFull { file, rank } => Status::LoadFull {
-            file: kind_of_file(file),
-            rank,
-        },
-        RunRefused::NoMemory => Status::NoMemory,
-    }
-}
-
-fn kind_of_file(file: LoadFile) -> FileKind
-    ensures { result ≡ kind_of_file file }
-{
-    match file {
-        LoadFile::Vertices => FileKind::Vertices,
-        LoadFile::Edges => FileKind::Edges,
     }
 }

@@ -61,6 +61,10 @@ fn scripts_run(rt: HostRuntime) -> Result<(), Fail> {
         (FIRST, "1.1 w 0\n done\n yes\nwrites 1\n"),
         ("", "writes 0\n"),
         (
+            "section\ntxn\nvertex 7\nend\ntxn\nhas 7\nend\n",
+            "1.1 w 0\n done\n1.2 r 1\n yes\nwrites 1\n",
+        ),
+        (
             "section\ntxn\nvertex 7\nabort\nsection\nall\nvertices\nend",
             "1.1 aborted\n2.1 r 0\n count 0\nwrites 0\n",
         ),
@@ -129,6 +133,7 @@ fn bad_files_are_told(rt: HostRuntime) -> Result<(), Fail> {
         (["run", "--vertices=odd", "bad"].as_slice(), bad_vertices),
         (["run", "--edges=e", "bad"].as_slice(), bad_edges),
         (["run", "bad"].as_slice(), bad_script),
+        (["check", "bad", "s"].as_slice(), bad_script),
         (small.as_slice(), full),
     ] {
         let mut shelf = shelf_with(alloc, &files, &[])?;
@@ -144,6 +149,9 @@ fn faults_are_answered(rt: HostRuntime) -> Result<(), Fail> {
     let mut shelf = shelf_with(alloc, &files, &[2])?;
     let read = Status::ReadFault(FileKind::Script);
     answers(&rt, alloc, &["run", "s"], &mut shelf, 1000, read, "")?;
+    let mut shelf = shelf_with(alloc, &files, &[3])?;
+    let read = Status::ReadFault(FileKind::Output);
+    answers(&rt, alloc, &["check", "s", "v"], &mut shelf, 1000, read, "")?;
     let mut shelf = shelf_with(alloc, &files, &[1])?;
     let read = Status::ReadFault(FileKind::Vertices);
     answers(
@@ -168,6 +176,151 @@ fn faults_are_answered(rt: HostRuntime) -> Result<(), Fail> {
 }
 
 #[test]
+fn outputs_are_checked(rt: HostRuntime) -> Result<(), Fail> {
+    let alloc = rt.alloc();
+    let load = ":ID,:LABEL,n:int\n1,,0\n";
+    let script = "section\ntxn\nget 1 n\nset 1 n 5\nend\nsection\ntxn\nget 1 n\nset 1 n 9\nend\n";
+    let unseen = Status::Illegal {
+        clause: 4,
+        section: 2,
+        txn: 1,
+    };
+    let bad = Status::BadOutput { line: 1 };
+    for (output, status, written) in [
+        (
+            "1.1 w 1\n value 0\n done\n2.1 w 2\n value 5\n done\nwrites 3\n",
+            Status::Done,
+            "legal\n",
+        ),
+        (
+            "1.1 w 2\n value 9\n done\n2.1 w 1\n value 0\n done\nwrites 3\n",
+            Status::Done,
+            "legal\n",
+        ),
+        (
+            "1.1 w 1\n value 0\n done\n2.1 w 2\n value 0\n done\nwrites 3\n",
+            unseen,
+            "",
+        ),
+        ("hello", bad, ""),
+        ("", bad, ""),
+    ] {
+        let files = [("v", load), ("s", script), ("o", output)];
+        let mut shelf = shelf_with(alloc, &files, &[])?;
+        let words = ["check", "--vertices=v", "s", "o"];
+        answers(&rt, alloc, &words, &mut shelf, 1000, status, written)?;
+    }
+    Ok(())
+}
+
+#[test]
+fn a_section_keeps_its_order(rt: HostRuntime) -> Result<(), Fail> {
+    let alloc = rt.alloc();
+    let files = [
+        ("s", "section\ntxn\nvertex 7\nend\ntxn\nhas 7\nend\n"),
+        ("early", "1.1 w 0\n done\n1.2 r 0\n no\nwrites 1\n"),
+        ("behind", "1.1 w 0\n done\n1.2 r 1\n yes\nwrites 1\n"),
+    ];
+    let early = Status::Illegal {
+        clause: 3,
+        section: 1,
+        txn: 2,
+    };
+    for (output, status, written) in [("early", early, ""), ("behind", Status::Done, "legal\n")] {
+        let mut shelf = shelf_with(alloc, &files, &[])?;
+        let words = ["check", "s", output];
+        answers(&rt, alloc, &words, &mut shelf, 1000, status, written)?;
+    }
+    Ok(())
+}
+
+// Two sections that make and drop one vertex again and again.
+fn making_and_dropping(alloc: Global) -> Result<Bytes, Fail> {
+    let mut script = Vec::new(alloc);
+    for _ in 0..2 {
+        script.extend_from_slice(b"section\n")?;
+        for _ in 0..1000 {
+            script.extend_from_slice(b"txn\nvertex 7\nend\ntxn\ndrop 7\nend\n")?;
+        }
+    }
+    Ok(Bytes::from_vec(script))
+}
+
+#[test]
+fn what_was_run_is_legal(rt: HostRuntime) -> Result<(), Fail> {
+    let alloc = rt.alloc();
+    let sizes = [
+        "--ranks=2",
+        "--blocks=32",
+        "--words=8",
+        "--buckets=2",
+        "--slots=2",
+    ];
+    let mut files = FileList::new(alloc);
+    files.push(NamedBytes {
+        name: bytes_of(alloc, "s")?,
+        bytes: making_and_dropping(alloc)?,
+    })?;
+    let mut shelf = MemShelf::new(files, NumList::new(alloc));
+    let mut words = words_of(alloc, &["run", "s"])?;
+    for size in sizes {
+        words.push(CommandWord::of(alloc, size)?)?;
+    }
+    let mut sink = MemSink::new(alloc, 1_000_000, NumList::new(alloc));
+    let answer = gdi_main(alloc, &words, &mut shelf, &mut sink);
+    assert_eq!(rt; answer, Status::Done);
+    assert!(rt; sink.bytes().ends_with(b"\nwrites 4000\n"));
+    let mut files = FileList::new(alloc);
+    files.push(NamedBytes {
+        name: bytes_of(alloc, "s")?,
+        bytes: making_and_dropping(alloc)?,
+    })?;
+    files.push(NamedBytes {
+        name: bytes_of(alloc, "o")?,
+        bytes: Bytes::from_vec(Vec::from_slice(alloc, sink.bytes())?),
+    })?;
+    let mut shelf = MemShelf::new(files, NumList::new(alloc));
+    let [ranks, blocks, words, buckets, slots] = sizes;
+    let words = ["check", ranks, blocks, words, buckets, slots, "s", "o"];
+    answers(
+        &rt,
+        alloc,
+        &words,
+        &mut shelf,
+        1000,
+        Status::Done,
+        "legal\n",
+    )
+}
+
+#[test]
+fn drills_are_told(rt: HostRuntime) -> Result<(), Fail> {
+    let alloc = rt.alloc();
+    let tiny = "vertices 1\nedges 2\nparts 1\ndeepest 0\nfull 0\n";
+    let small = "vertices 4\nedges 6\nparts 1\ndeepest 2\nfull 0\n";
+    for (words, limit, status, written) in [
+        (["drill", "1", "0"].as_slice(), 1000, Status::Done, tiny),
+        (["drill", "4", "1"].as_slice(), 1000, Status::Done, small),
+        (
+            ["drill", "--", "4", "1"].as_slice(),
+            1000,
+            Status::Done,
+            small,
+        ),
+        (
+            ["drill", "4", "1"].as_slice(),
+            10,
+            Status::WriteFault,
+            "vertices 4",
+        ),
+    ] {
+        let mut shelf = shelf_with(alloc, &[], &[0])?;
+        answers(&rt, alloc, words, &mut shelf, limit, status, written)?;
+    }
+    Ok(())
+}
+
+#[test]
 fn words_are_told(rt: HostRuntime) -> Result<(), Fail> {
     let alloc = rt.alloc();
     let command = Status::Usage(UsageKind::Command);
@@ -184,6 +337,12 @@ fn words_are_told(rt: HostRuntime) -> Result<(), Fail> {
         (["run", "s", "s"].as_slice(), others),
         (["run", "--ranks", "x", "s"].as_slice(), number),
         (["run", "--ranks", "65", "s"].as_slice(), geometry),
+        (["check", "s"].as_slice(), others),
+        (["check", "--ranks=65", "s", "s"].as_slice(), geometry),
+        (["drill", "4"].as_slice(), others),
+        (["drill", "--ranks=1", "4", "1"].as_slice(), others),
+        (["drill", "0", "1"].as_slice(), number),
+        (["drill", "10001", "1"].as_slice(), number),
     ] {
         let mut shelf = shelf_with(alloc, &[("s", FIRST)], &[])?;
         answers(&rt, alloc, words, &mut shelf, 1000, status, "")?;

@@ -1,6 +1,8 @@
 ghost use Rattle.gdi_run.specs.Answer.{IsAnswer};
 
 use crate::Status;
+use crate::check::check_files;
+use crate::drilling::tell_drill;
 use crate::run::run_files;
 use crate::words::{command_in, texts_of};
 use command_words::{Command, UsageKind, WordsRefused, read_words};
@@ -10,7 +12,7 @@ use std::alloc::Global;
 
 /// Does what the words of a command line ask for: reads from the shelf, writes to the sink, and answers how it ended.
 ///
-/// So far the one command is `run`; any other is answered as no command.
+/// `report` is answered as no command so far.
 pub fn gdi_main<F: Shelf, K: Sink>(
     alloc: Global,
     words: &CommandWordList,
@@ -28,9 +30,15 @@ pub fn gdi_main<F: Shelf, K: Sink>(
     };
     match read_words(alloc, name, others.as_slice()) {
         Ok(Command::Run { source, script }) => run_files(alloc, &source, script, shelf, out),
-        Ok(Command::Check { .. }) => Status::Usage(UsageKind::Command),
+        Ok(
+            Command::Check {
+                source,
+                script,
+                output,
+            },
+        ) => check_files(alloc, &source, script, output, shelf, out),
         Ok(Command::Report { .. }) => Status::Usage(UsageKind::Command),
-        Ok(Command::Drill { .. }) => Status::Usage(UsageKind::Command),
+        Ok(Command::Drill { size, seed }) => tell_drill(alloc, size, seed, out),
         Err(WordsRefused::Usage(kind)) => Status::Usage(kind),
         Err(WordsRefused::NoMemory) => Status::NoMemory,
     }

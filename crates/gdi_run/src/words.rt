@@ -13,8 +13,8 @@ pub(crate) fn command_in(words: &[CommandWord]) -> Option<(CommandName, &[Comman
 {
     match words {
         [word, others @ ..] => match CommandName::of(word.text()) {
-            Some(CommandName::Run) => Some((CommandName::Run, others)),
-            _ => None,
+            None | Some(CommandName::Report) => None,
+            Some(name) => Some((name, others)),
         },
         _ => None,
     }

@@ -6,7 +6,7 @@ use std::fs;
 use std::test::Fail;
 
 // The words after the program's name, the number that it ends with, its output and its errors.
-const RUNS: [(&[&str], u8, &str, &str); 8] = [
+const RUNS: [(&[&str], u8, &str, &str); 12] = [
     (
         &["run", "gdi_shell_good.gdi"],
         0,
@@ -50,6 +50,30 @@ const RUNS: [(&[&str], u8, &str, &str); 8] = [
         "",
         "gdi_shell: script line 3 fault 5\n",
     ),
+    (
+        &["check", "gdi_shell_good.gdi", "gdi_shell_good.out"],
+        0,
+        "legal\n",
+        "",
+    ),
+    (
+        &["check", "gdi_shell_good.gdi", "gdi_shell_wrong.out"],
+        9,
+        "",
+        "gdi_shell: illegal by clause 4 at 1.1\n",
+    ),
+    (
+        &["check", "gdi_shell_good.gdi", "gdi_shell_bad.gdi"],
+        11,
+        "",
+        "gdi_shell: output line 1\n",
+    ),
+    (
+        &["drill", "4", "1"],
+        0,
+        "vertices 4\nedges 6\nparts 1\ndeepest 2\nfull 0\n",
+        "",
+    ),
 ];
 
 #[test]
@@ -61,6 +85,16 @@ fn the_program_runs(rt: HostRuntime) -> Result<(), Fail> {
     )?;
     fs::write(&rt, "gdi_shell_empty.gdi", "")?;
     fs::write(&rt, "gdi_shell_bad.gdi", "section\ntxn\nvertex 01\nend\n")?;
+    fs::write(
+        &rt,
+        "gdi_shell_good.out",
+        "1.1 w 0\n done\n yes\nwrites 1\n",
+    )?;
+    fs::write(
+        &rt,
+        "gdi_shell_wrong.out",
+        "1.1 w 0\n done\n no\nwrites 1\n",
+    )?;
     for (words, number, output, errors) in RUNS {
         let mut started = vec![in rt.alloc(); "gdi_shell"]?;
         started.extend_from_slice(words)?;
@@ -74,6 +108,8 @@ fn the_program_runs(rt: HostRuntime) -> Result<(), Fail> {
         "gdi_shell_good.gdi",
         "gdi_shell_empty.gdi",
         "gdi_shell_bad.gdi",
+        "gdi_shell_good.out",
+        "gdi_shell_wrong.out",
     ] {
         fs::remove_file(&rt, name)?;
     }
