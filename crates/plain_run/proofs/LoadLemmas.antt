@@ -118,10 +118,15 @@ legal_behind shape load script loaded run has runs =
 
 -- ---- a graph that is handed on
 
-pub handed_on : (shape : Shape) (load : Load) (handed : Option Plain) (graph : Plain) (fits : Bool) → IfSome handed (λ h. (fits ≡ true) × (h ≡ graph))
-    → (fits ≡ true → HasRoom shape load) → graph ≡ behind_load shape load → IsReady shape load handed
-handed_on shape load None graph fits so room is = tt
-handed_on shape load (Some h) graph fits so room is = (room so.0, so.1 ∙ is)
+pub shape_behind_vertices : (shape : Shape) (load : Load) → (behind_vertices shape load).shape ≡ shape
+shape_behind_vertices shape load = shape_behind (empty_plain shape) load.vertices
+
+pub handed_on : (shape : Shape) (load : Load) (handed : Option Plain) (graph : Plain) (vertices_fit edges_fit : Bool)
+    → IfSome handed (λ h. (vertices_fit ≡ true) × (edges_fit ≡ true) × (h ≡ graph))
+    → (vertices_fit ≡ true → full_for (empty_plain shape) load.vertices ≡ None) → (edges_fit ≡ true → full_for (behind_vertices shape load) load.edges ≡ None)
+    → graph ≡ behind_load shape load → IsReady shape load handed
+handed_on shape load None graph v e so vertices edges is = tt
+handed_on shape load (Some h) graph v e so vertices edges is = (record { vertices = vertices so.0; edges = edges so.1 }, so.2 ∙ is)
 
 pub counted_there : (shape : Shape) (plain before : Plain) (blocks : Blocks) → plain ≡ before → before.shape ≡ shape → IsCountOf plain.shape plain.graph blocks → IsCountOf shape before.graph blocks
 counted_there shape plain before blocks is same count =

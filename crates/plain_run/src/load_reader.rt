@@ -53,22 +53,21 @@ pub(crate) fn read_ready_load(
     let edges = read_file(LoadFile::Edges, edges, &mut graph)?;
     let behind_edges = count_blocks(&geometry, &graph)?;
     let edges_fit = has_room(&geometry, &behind_vertices, &edges, &behind_edges)?;
-    let fits = vertices_fit && edges_fit;
     let graph = PlainGraph::of(alloc, geometry, graph, &behind_edges);
     Ok(ReadyLoad {
         load: Load { vertices, edges },
-        graph: if_so(fits, graph),
+        graph: if_both(vertices_fit, edges_fit, graph),
     })
 }
 
-// The graph, where so it is.
-fn if_so(fits: bool, graph: PlainGraph) -> Option<PlainGraph>
-    ensures { IfSome result (λ handed. (fits ≡ true) × (handed ≡ graph)) }
+// The graph, where both files have room.
+fn if_both(vertices_fit: bool, edges_fit: bool, graph: PlainGraph) -> Option<PlainGraph>
+    ensures { IfSome result (λ handed. (vertices_fit ≡ true) × (edges_fit ≡ true) × (handed ≡ graph)) }
 {
-    if !fits {
-        return None;
+    if vertices_fit && edges_fit {
+        return Some(graph);
     }
-    Some(graph)
+    None
 }
 
 // Whether each rank surely has room for a file's transaction, by the blocks before it and behind it.
