@@ -4,18 +4,15 @@ ghost use Rattle.graph_model.specs.Maps.{at, is_there, with_at, without};
 ghost use Rattle.graph_model.specs.Lookups.{values_at};
 ghost use Rattle.graph_model.specs.Sizes.{words_of_value, words_of_values, words_of_props};
 
-use edge_index::copy_of_map;
+use crate::value_rows::{ValueRows, one_value};
 use gdi_kinds::{Duplicate, NoMemory, Value, ValueList};
-use rma_layout::MOST_WORDS;
 use std::alloc::Global;
-use std::collections::BTreeMap;
 use std::marker::Model;
 
 /// Properties as the plain graph holds them, with the words that their values have.
 #[derive(Debug, Drop)]
 pub struct HeldProps {
-    // The values of each, by the number of its type.
-    values: BTreeMap<u32, ValueList, Global>,
+    values: ValueRows,
     words: u64,
 }
 
@@ -26,9 +23,9 @@ impl Model for HeldProps {
 
     ghost Value = { Props };
 
-    ghost view = { λ held. held.values.entries };
+    ghost view = { λ held. held.values };
 
-    ghost invariant = { λ held. (held.words ≡ words_of_props held.values.entries) × (held.words ≤ 1048576) };
+    ghost invariant = { λ held. (held.words ≡ words_of_props held.values) × (held.words ≤ 1048576) };
 }
 
 impl HeldProps {
@@ -37,7 +34,7 @@ impl HeldProps {
         ensures { result ≡ [] }
     {
         HeldProps {
-            values: BTreeMap::new(alloc),
+            values: ValueRows::new(alloc),
             words: 0,
         }
     }
@@ -61,12 +58,12 @@ impl HeldProps {
     pub fn get(&self, ty: u32) -> Option<&ValueList>
         ensures { option_copied result ≡ at self.now ty }
     {
-        self.values.get(&ty)
+        self.values.get(ty)
     }
 
     /// The values of all types, by the types' numbers.
-    pub fn values(&self) -> &BTreeMap<u32, ValueList, Global>
-        ensures { result.now.entries ≡ self.now }
+    pub fn values(&self) -> &ValueRows
+        ensures { result.now ≡ self.now }
     {
         &self.values
     }
@@ -74,7 +71,7 @@ impl HeldProps {
     pub fn has(&self, ty: u32) -> bool
         ensures { result ≡ is_there self.now ty }
     {
-        self.values.contains_key(&ty)
+        self.values.has(ty)
     }
 
     /// The words of all values if a type had this one alone.
@@ -102,7 +99,7 @@ impl HeldProps {
         ensures value { result ≡ words_of_values (values_at self.now ty) }
         ensures within { result ≤ words_of_props self.now }
     {
-        match self.values.get(&ty) {
+        match self.values.get(ty) {
             Some(values) => words_of_values(values),
             None => 0,
         }
@@ -114,7 +111,7 @@ impl HeldProps {
         ensures { OnOk result (self.new ≡ with_at self.old ty (value ∷ [])) }
     {
         let words = self.words_with(ty, &value);
-        self.values.insert(ty, one_value(alloc, value)?)?;
+        self.values.put(ty, one_value(alloc, value)?)?;
         self.words = words;
         Ok(())
     }
@@ -125,42 +122,27 @@ impl HeldProps {
         ensures { OnOk result (self.new ≡ with_at self.old ty (values_at self.old ty ++ value ∷ [])) }
     {
         let words = self.words_adding(ty, &value);
-        if let Some(values) = self.values.get_mut(&ty) {
-            values.push(value)?;
-            self.words = words;
-            return Ok(());
-        }
-        self.values.insert(ty, one_value(alloc, value)?)?;
+        self.values.push(alloc, ty, value)?;
         self.words = words;
         Ok(())
     }
 
     /// Takes out all values of a type.
-    pub fn remove(&mut self, ty: u32) -> Option<ValueList>
-        ensures old { result ≡ at self.old ty }
-        ensures left { self.new ≡ without self.old ty }
+    pub fn remove(&mut self, ty: u32)
+        ensures { self.new ≡ without self.old ty }
     {
-        let values = self.values.remove(&ty)?;
-        self.words -= words_of_values(&values);
-        Some(values)
+        self.words -= self.words_at(ty);
+        self.values.forget(ty);
     }
 }
 
 impl Duplicate for HeldProps {
     fn copy(&self, alloc: Global) -> Result<HeldProps, NoMemory> {
         Ok(HeldProps {
-            values: copy_of_map(alloc, &self.values)?,
+            values: self.values.copy(alloc)?,
             words: self.words,
         })
     }
-}
-
-fn one_value(alloc: Global, value: Value) -> Result<ValueList, NoMemory>
-    ensures { IfOk result (λ values. values ≡ value ∷ []) }
-{
-    let mut values = ValueList::new(alloc);
-    values.push(value)?;
-    Ok(values)
 }
 
 /// The words of a list of values.

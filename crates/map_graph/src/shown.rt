@@ -36,7 +36,7 @@ pub(crate) fn lines_of_props(
         (option_map_or (λ ty. ty.name) (item_at types.now entry.0) []) entry.1) props.now) }
 {
     let mut lines = PropList::new(alloc);
-    for (ty, values) in props.values() {
+    for (ty, values) in props.values().as_slice() {
         push_values(alloc, &mut lines, types.at(*ty as usize).name(), values)?;
     }
     Ok(lines)

@@ -5,3 +5,4 @@ pub mod Shortage
 pub mod Finding
 pub mod Keeping
 pub mod Beginning
+pub mod Counts

@@ -4,3 +4,4 @@ pub mod Touching
 pub mod Trials
 pub mod Seen
 pub mod Used
+pub mod Counted

@@ -2,11 +2,13 @@ ghost use Rattle.std.specs.Prelude.{◌≡◌, IfOk, OnOk, is_some, if◌then◌
 ghost use Rattle.graph_model.specs.Capacity.{full_rank};
 ghost use Rattle.graph_model.specs.Graph.{empty_graph};
 ghost use Rattle.graph_model.specs.Transactions.{graph_after_txn, replies_to};
+ghost use Rattle.graph_model.specs.WellFormed.{IsWellFormed};
+ghost use Rattle.plain_graph.specs.Counted.{IsCountOf};
 ghost use Rattle.plain_graph.specs.Ending.{ended_of};
 
-use crate::Ended;
 use crate::execution::{execute_on, full_on, run_on};
 use crate::rooms::Rooms;
+use crate::{BlockCount, Ended};
 use gdi_kinds::{ReplyList, Txn};
 use map_graph::{MapGraph, ModelRefused};
 use rma_layout::Geometry;
@@ -53,6 +55,22 @@ impl PlainGraph {
             geometry,
             map: MapGraph::new(alloc, geometry),
             used: Rooms::all(reserved),
+            torn: false,
+        }
+    }
+
+    /// A graph that was made elsewhere, with its blocks, which were counted.
+    pub fn of(alloc: Global, geometry: Geometry, map: MapGraph, count: &BlockCount) -> PlainGraph
+        requires geometry { geometry ≡ map.shape }
+        requires well_formed { IsWellFormed map.graph }
+        requires counted { IsCountOf map.shape map.graph count.now }
+        ensures { result ≡ map }
+    {
+        PlainGraph {
+            alloc,
+            geometry,
+            map,
+            used: count.used,
             torn: false,
         }
     }

@@ -85,8 +85,8 @@ fn try_call(
     Ok(())
 }
 
-// The object that a call may make.
-fn object_to_make(call: &Call) -> Option<ObjectName>
+/// The object that a call may make.
+pub(crate) fn object_to_make(call: &Call) -> Option<ObjectName>
     ensures { (shape : Shape) → option_map (spot_named shape) result ≡ capacity.object_to_make shape call.now }
 {
     match call {
@@ -110,8 +110,8 @@ fn object_to_make(call: &Call) -> Option<ObjectName>
     }
 }
 
-// The rank of an object.
-fn rank_of(geometry: &Geometry, object: ObjectName) -> u16
+/// The rank of an object.
+pub(crate) fn rank_of(geometry: &Geometry, object: ObjectName) -> u16
     ensures { result ≡ rank_in geometry.now object }
 {
     match object {
@@ -195,8 +195,8 @@ fn blocks_of(geometry: &Geometry, map: &MapGraph, object: ObjectName) -> Result<
     Ok(blocks_of_words(geometry, words))
 }
 
-// The blocks of so many words: one word of each block is the link to the next.
-fn blocks_of_words(geometry: &Geometry, words: u64) -> u64
+/// The blocks of so many words: one word of each block is the link to the next.
+pub(crate) fn blocks_of_words(geometry: &Geometry, words: u64) -> u64
     ensures { result ≡ blocks_of_words geometry.now words }
 {
     words.div_ceil(geometry.words() - 1).max(1)

@@ -1,5 +1,6 @@
 -- A load of two files as a list of transactions, and the run of a script behind it.
-use Rattle.std.proofs.Common.{◌≡◌, ◌+◌, ◌≤◌, Bool, true, false, not, cond, IsTrue, List, [], ◌∷◌, ◌++◌, length, Option, Some, None, refl, sym, ap, subst, ◌∙◌, arith}
+use Rattle.std.proofs.Common.{◌≡◌, ℕ, suc, ◌+◌, ◌≤◌, Bool, true, false, not, cond, IsTrue, List, [], ◌∷◌, ◌++◌, length, Option, Some, None, refl, sym, ap, subst, ◌∙◌, arith, length-append}
+use Rattle.std.specs.Prelude.{IfSome}
 use Rattle.std.specs.Option.{option_to_list}
 use Rattle.gdi_kinds.specs.declared.txn.Txn.{Txn}
 use Rattle.gdi_kinds.specs.Calls.{is_writing}
@@ -18,7 +19,8 @@ use Rattle.serial_run.specs.Runs.{RunsScript}
 use Rattle.serial_run.specs.declared.script_run.ScriptRun.{ScriptRun}
 use Rattle.plain_run.specs.declared.load.Load.{Load}
 use Rattle.plain_run.specs.declared.loaded.Loaded.{Loaded}
-use Rattle.plain_run.specs.Loading.{behind, behind_load, behind_vertices, empty_plain, full_for, txns_of, HasLoaded, HasRoom}
+use Rattle.plain_graph.specs.Counted.{Blocks, IsCountOf}
+use Rattle.plain_run.specs.Loading.{IsReady, behind, behind_load, behind_vertices, empty_plain, full_for, txns_of, HasLoaded, HasRoom}
 
 -- ---- transactions that don't write are no entries, and leave the graph
 
@@ -48,7 +50,7 @@ entries_have_room shape g (txn ∷ txns) room = room_more shape g txn txns (is_w
 
 -- ---- the two files
 
-shape_behind : (before : Plain) (txn : Option Txn) → (behind before txn).shape ≡ before.shape
+pub shape_behind : (before : Plain) (txn : Option Txn) → (behind before txn).shape ≡ before.shape
 shape_behind before None = refl
 shape_behind before (Some txn) = refl
 
@@ -113,3 +115,19 @@ legal_behind shape load script loaded run has runs =
     ∙ ap (λ s. serial_run s (behind_load shape load).graph k ps) (behind_shape shape load)
     ∙ ap (λ g. serial_run shape g k ps) (behind_graph shape load) in
     subst (IsLegalRun shape txns script) (sym printed) (serial_is_legal shape txns script (load_has_room shape load has.room))
+
+-- ---- a graph that is handed on
+
+pub shape_behind_vertices : (shape : Shape) (load : Load) → (behind_vertices shape load).shape ≡ shape
+shape_behind_vertices shape load = shape_behind (empty_plain shape) load.vertices
+
+pub handed_on : (shape : Shape) (load : Load) (handed : Option Plain) (graph : Plain) (vertices_fit edges_fit : Bool)
+    → IfSome handed (λ h. (vertices_fit ≡ true) × (edges_fit ≡ true) × (h ≡ graph))
+    → (vertices_fit ≡ true → full_for (empty_plain shape) load.vertices ≡ None) → (edges_fit ≡ true → full_for (behind_vertices shape load) load.edges ≡ None)
+    → graph ≡ behind_load shape load → IsReady shape load handed
+handed_on shape load None graph v e so vertices edges is = tt
+handed_on shape load (Some h) graph v e so vertices edges is = (record { vertices = vertices so.0; edges = edges so.1 }, so.2 ∙ is)
+
+pub counted_there : (shape : Shape) (plain before : Plain) (blocks : Blocks) → plain ≡ before → before.shape ≡ shape → IsCountOf plain.shape plain.graph blocks → IsCountOf shape before.graph blocks
+counted_there shape plain before blocks is same count =
+    subst (λ s. IsCountOf s before.graph blocks) same (subst (λ (p : Plain). IsCountOf p.shape p.graph blocks) is count)

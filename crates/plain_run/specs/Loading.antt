@@ -77,3 +77,8 @@ pub record HasLoaded (shape : Shape) (load : Load) (loaded : Loaded) : Type 0 wh
   pub room : HasRoom shape load
   pub graph : loaded.graph ≡ behind_load shape load
   pub entries : loaded.entries ≡ length (load_entries (txns_of load))
+
+-- a graph that is handed on is that behind the load, which has room
+abbrev pub IsReady : Shape → Load → Option Plain → Type 0
+IsReady shape load None = Unit {0}
+IsReady shape load (Some graph) = HasRoom shape load × (graph ≡ behind_load shape load)

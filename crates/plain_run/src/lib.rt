@@ -5,6 +5,8 @@ pub mod laws;
 mod load;
 mod load_reader;
 mod loaded;
+mod ready_load;
+mod ready_workload;
 mod run_refused;
 mod runner;
 mod texts;

@@ -1,7 +1,7 @@
 ghost use Rattle.std.specs.Prelude.{◌≡◌, ◌≤◌, None, IfOk, MatchResult, length};
 ghost use Rattle.std.specs.Option.{option_to_list};
 ghost use Rattle.graph_model.specs.History.{load_entries};
-ghost use Rattle.plain_run.specs.Loading.{HasLoaded, behind, full_for};
+ghost use Rattle.plain_run.specs.Loading.{HasLoaded, IsReady, behind, full_for, txns_of};
 ghost use Rattle.plain_run.specs.Running.{TellsFull};
 
 use crate::{Load, RunRefused};
@@ -39,8 +39,27 @@ pub fn take_load(alloc: Global, geometry: Geometry, load: &Load) -> Result<Loade
             rank,
         });
     }
-    let entries = entries_of(&load.vertices) + entries_of(&load.edges);
+    let entries = entries_in(load);
     Ok(Loaded { graph, entries })
+}
+
+/// The graph behind a load, as `take_load` has it, where the graph may be there already.
+pub(crate) fn finish_load(
+    alloc: Global,
+    geometry: Geometry,
+    load: &Load,
+    graph: Option<PlainGraph>,
+) -> Result<Loaded, RunRefused>
+    requires { IsReady geometry load.now graph }
+    ensures { MatchResult result (HasLoaded geometry load.now) (TellsFull geometry load.now) }
+{
+    match graph {
+        Some(graph) => Ok(Loaded {
+            graph,
+            entries: entries_in(load),
+        }),
+        None => take_load(alloc, geometry, load),
+    }
 }
 
 // Does a transaction, if there is one, on a graph; or answers the rank that has too few blocks for it.
@@ -56,6 +75,13 @@ fn take_txn(graph: &mut PlainGraph, txn: &Option<Txn>) -> Result<Option<u16>, No
         Ok(Ended::Full(rank)) => Ok(Some(rank)),
         Err(ModelRefused::NoMemory) => Err(NoMemory),
     }
+}
+
+// How many entries a load makes.
+fn entries_in(load: &Load) -> u64
+    ensures { result ≡ length (load_entries (txns_of load.now)) }
+{
+    entries_of(&load.vertices) + entries_of(&load.edges)
 }
 
 // How many entries a file makes: one, if its transaction writes.

@@ -2,8 +2,9 @@ ghost use Rattle.std.specs.Prelude.{IfOk, MatchResult};
 ghost use Rattle.plain_run.specs.Given.{given};
 ghost use Rattle.plain_run.specs.Running.{PrintsLegalRun, TellsWhy};
 
-use crate::loaded::{Loaded, take_load};
-use crate::workload_reader::read_workload;
+use crate::loaded::{Loaded, finish_load};
+use crate::ready_workload::ReadyWorkload;
+use crate::workload_reader::read_ready;
 use crate::{RunRefused, Texts};
 use gdi_kinds::Bytes;
 use outcome_text::print_outcomes;
@@ -17,8 +18,8 @@ use std::alloc::Global;
 pub fn run_texts(alloc: Global, geometry: Geometry, texts: &Texts) -> Result<Bytes, RunRefused>
     ensures { MatchResult result (PrintsLegalRun geometry (given texts.now)) (TellsWhy geometry (given texts.now)) }
 {
-    let workload = read_workload(alloc, geometry, texts)?;
-    let Loaded { graph, entries } = take_load(alloc, geometry, &workload.load)?;
+    let ReadyWorkload { workload, graph } = read_ready(alloc, geometry, texts)?;
+    let Loaded { graph, entries } = finish_load(alloc, geometry, &workload.load, graph)?;
     let run = run_script(alloc, graph, entries, &workload.script)?;
     Ok(print_outcomes(alloc, &run.printed)?)
 }

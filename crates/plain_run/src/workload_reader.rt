@@ -1,8 +1,11 @@
 ghost use Rattle.std.specs.Prelude.{MatchResult};
 ghost use Rattle.plain_run.specs.Given.{given};
+ghost use Rattle.plain_run.specs.Loading.{IsReady};
 ghost use Rattle.plain_run.specs.Running.{AreTexts, TellsBadText};
 
-use crate::load_reader::read_load;
+use crate::load_reader::read_ready_load;
+use crate::ready_load::ReadyLoad;
+use crate::ready_workload::ReadyWorkload;
 use crate::{RunRefused, Texts, Workload};
 use rma_layout::Geometry;
 use script_text::{ScriptRefused, read_script};
@@ -19,9 +22,25 @@ pub fn read_workload(
 ) -> Result<Workload, RunRefused>
     ensures { MatchResult result (AreTexts geometry (given texts.now)) (TellsBadText geometry (given texts.now)) }
 {
-    let load = read_load(alloc, geometry, texts.vertices, texts.edges)?;
+    let ReadyWorkload { workload, graph: _ } = read_ready(alloc, geometry, texts)?;
+    Ok(workload)
+}
+
+/// The load and the script that texts are, as `read_workload` has them, and the graph behind the load as `read_ready_load`
+/// hands it on.
+pub(crate) fn read_ready(
+    alloc: Global,
+    geometry: Geometry,
+    texts: &Texts,
+) -> Result<ReadyWorkload, RunRefused>
+    ensures { MatchResult result (λ ready. AreTexts geometry (given texts.now) ready.workload × IsReady geometry ready.workload.load ready.graph) (TellsBadText geometry (given texts.now)) }
+{
+    let ReadyLoad { load, graph } = read_ready_load(alloc, geometry, texts.vertices, texts.edges)?;
     match read_script(alloc, texts.script) {
-        Ok(script) => Ok(Workload { load, script }),
+        Ok(script) => Ok(ReadyWorkload {
+            workload: Workload { load, script },
+            graph,
+        }),
         Err(ScriptRefused::Bad { line, kind }) => Err(RunRefused::BadScript { line, kind }),
         Err(ScriptRefused::NoMemory) => Err(RunRefused::NoMemory),
     }

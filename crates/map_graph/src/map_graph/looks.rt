@@ -13,6 +13,8 @@ use super::MapGraph;
 use edge_index::EdgeKey;
 use gdi_kinds::{Kind, Name, NoMemory, Reply, Value};
 use graph_parts::{HeldEdge, HeldType, HeldVertex};
+use std::alloc::Global;
+use std::collections::BTreeMap;
 
 // What a call looks up before it answers.
 impl MapGraph {
@@ -70,6 +72,20 @@ impl MapGraph {
         ensures { option_copied result ≡ vertex_at self.now.graph id }
     {
         self.vertices.get(&id)
+    }
+
+    /// The vertices, by their identifiers.
+    pub fn held_vertices(&self) -> &BTreeMap<u64, HeldVertex, Global>
+        ensures { result.now.entries ≡ self.now.graph.vertices }
+    {
+        &self.vertices
+    }
+
+    /// The edges, by their names.
+    pub fn held_edges(&self) -> &BTreeMap<EdgeKey, HeldEdge, Global>
+        ensures { result.now.entries ≡ self.now.graph.edges }
+    {
+        &self.edges
     }
 
     /// How many ends of edges are at a vertex.
