@@ -5,7 +5,7 @@ ghost use Rattle.plain_check.specs.Refusals.{IsUnchecked};
 
 use crate::CheckRefused;
 use outcome_text::read_outcomes;
-use plain_run::{Loaded, Texts, read_workload, take_load};
+use plain_run::{Loaded, ReadyWorkload, Texts, finish_load, read_workload};
 use rma_layout::Geometry;
 use run_check::{Illegal, illegal_ones_are_not};
 use run_replay::first_illegal;
@@ -23,9 +23,9 @@ pub fn check_texts(
 ) -> Result<Option<Illegal>, CheckRefused>
     ensures { MatchResult result (IsVerdict geometry (given texts.now) output.now) (IsUnchecked geometry (given texts.now) output.now) }
 {
-    let workload = read_workload(alloc, geometry, texts)?;
+    let ReadyWorkload { workload, graph } = read_workload(alloc, geometry, texts)?;
     let run = read_outcomes(alloc, output)?;
-    let Loaded { graph, entries } = take_load(alloc, geometry, &workload.load)?;
+    let Loaded { graph, entries } = finish_load(alloc, geometry, &workload.load, graph)?;
     illegal_ones_are_not();
     Ok(first_illegal(alloc, graph, entries, &workload.script, &run)?)
 }

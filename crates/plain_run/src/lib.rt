@@ -15,7 +15,9 @@ mod workload_reader;
 
 pub use load::Load;
 pub use load_reader::read_load;
-pub use loaded::{Loaded, take_load};
+pub use loaded::{Loaded, finish_load, take_load};
+pub use ready_load::ReadyLoad;
+pub use ready_workload::ReadyWorkload;
 pub use run_refused::RunRefused;
 pub use runner::run_texts;
 pub use texts::Texts;

@@ -17,26 +17,12 @@ use rma_layout::Geometry;
 use std::alloc::Global;
 
 /// The load that the files are. The file of the vertices stands on the empty graph, that of the edges on the graph behind
-/// it. Whether ranks have blocks for it isn't asked.
+/// it. Whether ranks have blocks for it isn't asked: the graph on which the files are read is handed on where its blocks
+/// show that there was room, so that nothing has to be done again on another.
 ///
 /// `BadLoad` tells the first wrong record of the vertices, and that of the edges where the vertices' file is right or isn't
 /// given. The one other refusal is `NoMemory`.
 pub fn read_load(
-    alloc: Global,
-    geometry: Geometry,
-    vertices: Option<&[u8]>,
-    edges: Option<&[u8]>,
-) -> Result<Load, RunRefused>
-    ensures { let vertex_file = option_map (λ bytes. bytes.now) vertices.entry in let edge_file = option_map (λ bytes. bytes.now) edges.entry in
-        MatchResult result (IsLoad geometry vertex_file edge_file) (TellsBadLoad geometry vertex_file edge_file) }
-{
-    let ReadyLoad { load, graph: _ } = read_ready_load(alloc, geometry, vertices, edges)?;
-    Ok(load)
-}
-
-/// The load that the files are, as `read_load` has it. The graph on which they are read is handed on where its blocks show
-/// that there was room, so that nothing has to be done again on another.
-pub(crate) fn read_ready_load(
     alloc: Global,
     geometry: Geometry,
     vertices: Option<&[u8]>,

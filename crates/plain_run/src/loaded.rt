@@ -43,8 +43,8 @@ pub fn take_load(alloc: Global, geometry: Geometry, load: &Load) -> Result<Loade
     Ok(Loaded { graph, entries })
 }
 
-/// The graph behind a load, as `take_load` has it, where the graph may be there already.
-pub(crate) fn finish_load(
+/// The graph behind a load that was read: the one that was handed on, or else that of `take_load`, with its refusals.
+pub fn finish_load(
     alloc: Global,
     geometry: Geometry,
     load: &Load,

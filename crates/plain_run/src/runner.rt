@@ -3,9 +3,8 @@ ghost use Rattle.plain_run.specs.Given.{given};
 ghost use Rattle.plain_run.specs.Running.{PrintsLegalRun, TellsWhy};
 
 use crate::loaded::{Loaded, finish_load};
-use crate::ready_workload::ReadyWorkload;
-use crate::workload_reader::read_ready;
-use crate::{RunRefused, Texts};
+use crate::workload_reader::read_workload;
+use crate::{ReadyWorkload, RunRefused, Texts};
 use gdi_kinds::Bytes;
 use outcome_text::print_outcomes;
 use rma_layout::Geometry;
@@ -18,7 +17,7 @@ use std::alloc::Global;
 pub fn run_texts(alloc: Global, geometry: Geometry, texts: &Texts) -> Result<Bytes, RunRefused>
     ensures { MatchResult result (PrintsLegalRun geometry (given texts.now)) (TellsWhy geometry (given texts.now)) }
 {
-    let ReadyWorkload { workload, graph } = read_ready(alloc, geometry, texts)?;
+    let ReadyWorkload { workload, graph } = read_workload(alloc, geometry, texts)?;
     let Loaded { graph, entries } = finish_load(alloc, geometry, &workload.load, graph)?;
     let run = run_script(alloc, graph, entries, &workload.script)?;
     Ok(print_outcomes(alloc, &run.printed)?)

@@ -3,7 +3,7 @@ ghost use Rattle.plain_run.specs.Given.{given};
 ghost use Rattle.plain_run.specs.Loading.{IsReady};
 ghost use Rattle.plain_run.specs.Running.{AreTexts, TellsBadText};
 
-use crate::load_reader::read_ready_load;
+use crate::load_reader::read_load;
 use crate::ready_load::ReadyLoad;
 use crate::ready_workload::ReadyWorkload;
 use crate::{RunRefused, Texts, Workload};
@@ -11,7 +11,7 @@ use rma_layout::Geometry;
 use script_text::{ScriptRefused, read_script};
 use std::alloc::Global;
 
-/// The load and the script that texts are.
+/// The load and the script that texts are, and the graph behind the load where `read_load` hands it on.
 ///
 /// `BadLoad` and `BadScript` tell their first fault, where those of the load files come before those of the script. The one
 /// other refusal is `NoMemory`.
@@ -19,23 +19,10 @@ pub fn read_workload(
     alloc: Global,
     geometry: Geometry,
     texts: &Texts,
-) -> Result<Workload, RunRefused>
-    ensures { MatchResult result (AreTexts geometry (given texts.now)) (TellsBadText geometry (given texts.now)) }
-{
-    let ReadyWorkload { workload, graph: _ } = read_ready(alloc, geometry, texts)?;
-    Ok(workload)
-}
-
-/// The load and the script that texts are, as `read_workload` has them, and the graph behind the load as `read_ready_load`
-/// hands it on.
-pub(crate) fn read_ready(
-    alloc: Global,
-    geometry: Geometry,
-    texts: &Texts,
 ) -> Result<ReadyWorkload, RunRefused>
     ensures { MatchResult result (λ ready. AreTexts geometry (given texts.now) ready.workload × IsReady geometry ready.workload.load ready.graph) (TellsBadText geometry (given texts.now)) }
 {
-    let ReadyLoad { load, graph } = read_ready_load(alloc, geometry, texts.vertices, texts.edges)?;
+    let ReadyLoad { load, graph } = read_load(alloc, geometry, texts.vertices, texts.edges)?;
     match read_script(alloc, texts.script) {
         Ok(script) => Ok(ReadyWorkload {
             workload: Workload { load, script },

@@ -7,7 +7,7 @@ use Rattle.map_graph.specs.Plain.{Plain}
 use Rattle.plain_run.specs.declared.load.Load.{Load}
 use Rattle.plain_run.specs.Loading.{behind, behind_load, behind_vertices, empty_plain, LoadsFile}
 use Rattle.plain_run.proofs.LoadLemmas.{behind_shape, counted_there, handed_on, shape_behind_vertices}
-use Rattle.plain_run.proofs.load_reader.read_ready_load.Goals as goal
+use Rattle.plain_run.proofs.load_reader.read_load.Goals as goal
 
 pub returns : goal.returns
 returns c =
