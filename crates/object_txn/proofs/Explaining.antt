@@ -1,5 +1,5 @@
 -- A refusal stays explained.
-use Rattle.std.proofs.Common.{ℕ, ◌<◌, ◌≤◌, ◌==◌, cond, List, ◌++◌, sym, ap, ◌∙◌, subst, arith, append_assoc}
+use Rattle.std.proofs.Common.{◌≡◌, ℕ, ◌<◌, ◌≤◌, ◌==◌, cond, List, ◌++◌, sym, ap, ◌∙◌, subst, arith, append_assoc}
 use Rattle.std.specs.List.{count_by}
 use Rattle.std.proofs.lemmas.List.Elements.{Contains-append_left, Contains-append_right}
 use Rattle.std.proofs.lemmas.List.Sums.{sum_by-append}
@@ -128,3 +128,13 @@ module _ {N : Type 0} (shape : Shape) where
     later = λ first why was. recalls_later first before after why follows was;
     earlier = λ last why was. recalls_earlier before after last why follows was;
   }
+
+-- so it does for whatever has a shape and a view
+pub explained_of : {N S : Type 0} (shape_of : S → Shape) (view_of : S → View N) (old new : S) → shape_of new ≡ shape_of old
+    → Recalls (view_of old) (view_of new)
+    → StaysExplained {S = S} {R = TxnRefused} (λ first last why. Explains (shape_of first) (view_of first) (view_of last) why) old new
+explained_of {N} {S} shape_of view_of old new same recalls = record {
+  later = λ first why was. recalls_later (shape_of first) (view_of first) (view_of old) (view_of new) why recalls was;
+  earlier = λ last why was. recalls_earlier (shape_of old) (view_of old) (view_of new) (view_of last) why recalls
+      (subst (λ shape. Explains shape (view_of new) (view_of last) why) same was);
+}

@@ -13,6 +13,8 @@ ghost use Rattle.object_txn.specs.Endings.{GivesBack};
 ghost use Rattle.object_txn.specs.State.{said_by, window_state};
 ghost use Rattle.object_txn.specs.Tied.{IsFree, IsNone, IsTied, KnowsChains};
 
+mod calls;
+
 use crate::committing::{leave_committed, write_planned};
 use crate::ending::end_all;
 use crate::making::make;
