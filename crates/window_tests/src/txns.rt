@@ -78,6 +78,7 @@ fn commit_both<S: Store<Anything>>(
     requires rank { 0 < (S.state store.old).shape.ranks }
     requires few { many + 1 ≤ MOST_WORDS }
     requires allowed { 0 < (S.state store.old).allowance }
+    ensures made { IfOk result (λ done. IsBlock (S.state store.old).shape done.0) }
     ensures idle { (S.state store.new).phase ≡ Idle }
     ensures shape { (S.state store.new).shape ≡ (S.state store.old).shape }
     ensures base { (S.state store.new).base ≡ (S.state store.old).base }
