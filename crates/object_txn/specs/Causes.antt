@@ -1,5 +1,5 @@
 -- Why a call of a store over a window is refused: what its rank has seen between two moments.
-use Rattle.std.specs.Prelude.{◌≡◌, true, ℕ, ◌==◌, ◌≤◌, List, ◌++◌}
+use Rattle.std.specs.Prelude.{◌≡◌, Bool, true, false, ℕ, ◌==◌, ◌≤◌, List, ◌++◌}
 use Rattle.std.specs.List.{Contains, count_by}
 use Rattle.rma_layout.specs.Shape.{Shape}
 use Rattle.lock_words.specs.declared.want.Want.{Want}
@@ -62,3 +62,12 @@ module _ {N : Type 0} where
   explained_for_memory shape before after (PoolBusy rank loaded seen) never = absurd (cc never)
   explained_for_memory shape before after (Worn rank head) never = absurd (cc never)
   explained_for_memory shape before after NoMemory is = tt
+
+-- somebody else stood in the way. That never comes to a rank that is alone
+abbrev pub is_for_others : TxnRefused → Bool
+is_for_others (Busy object want word) = true
+is_for_others (GateBusy word) = true
+is_for_others (Empty rank head) = false
+is_for_others (PoolBusy rank loaded seen) = true
+is_for_others (Worn rank head) = false
+is_for_others NoMemory = false

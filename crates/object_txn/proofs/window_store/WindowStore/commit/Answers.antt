@@ -2,7 +2,7 @@ use Rattle.std.proofs.Common.{sym, ap, subst}
 use Rattle.window_rule.proofs.Trails.{follows_trans}
 use Rattle.object_txn.specs.declared.txn.Txn.{Txn}
 use Rattle.object_txn.proofs.EntryFacts.{commits, entry_same, recalls_all}
-use Rattle.object_txn.proofs.Explaining.{explains_later, recalls_by}
+use Rattle.object_txn.proofs.Explaining.{explains_later, never_for_others, recalls_by}
 use Rattle.object_txn.proofs.StoreFacts.{continues, recalled, refuses_commit}
 use Rattle.object_txn.proofs.window_store.WindowStore.commit.Goals as goal
 
@@ -68,3 +68,7 @@ returns-in-Ok-clause-keeps g c =
     (ap (λ (t : Txn). t.reads) same) (ap (λ (t : Txn). t.writes) same))
     c.plan_writes.ensures.follows c.write_planned-number.ensures.entry c.leave_committed.ensures.follows c.leave_committed.ensures.seen)
     c.leave_committed.ensures.truths c.leave_committed.ensures.tied (λ quiet. absurd (quiet c.requires.begun))
+
+pub returns-in-Err-clause-alone : goal.returns-in-Err-clause-alone
+returns-in-Err-clause-alone g c = λ alone.
+    never_for_others c.args.self.now.window.now.shape c.args.self.now.rank.view c.end_all.new.rank.view c.in-Err.why (returns-in-Err-clause-explained g c) alone
