@@ -1,4 +1,4 @@
-ghost use Rattle.std.specs.Prelude.{◌≡◌, ◌≢◌, ◌<◌, ◌≤◌, false, length, IfErr, IfOk, OnErr};
+ghost use Rattle.std.specs.Prelude.{◌≡◌, ◌≢◌, ◌<◌, ◌≤◌, false, length, IfErr, IfOk, OnErr, OnOk};
 ghost use Rattle.rma_layout.specs.declared.limits.TheConstants.{MOST_WORDS};
 ghost use Rattle.rma_layout.specs.Placement.{IsBlock};
 ghost use Rattle.object_store.specs.declared.phase.Phase.TheVariants.{Idle, Reading, Writing};
@@ -10,7 +10,7 @@ ghost use Rattle.window_rule.specs.RightsHold.{IsAlone};
 ghost use Rattle.window_rule.specs.Trails.{Follows};
 ghost use Rattle.object_txn.specs.Causes.{Explains, is_for_others};
 ghost use Rattle.object_txn.specs.Committing.{Recalls};
-ghost use Rattle.object_txn.specs.Endings.{GivesBack};
+ghost use Rattle.object_txn.specs.Endings.{GivesBack, GivesSurplus};
 ghost use Rattle.object_txn.specs.State.{said_by, window_state};
 ghost use Rattle.object_txn.specs.Tied.{IsFree, IsNone, IsTied, KnowsChains};
 
@@ -210,6 +210,7 @@ impl<'a, L: Law> WindowStore<'a, L> {
         ensures refused { IfErr result (λ why. RefusesCommit (window_state self.old.window.now self.old.rank self.old.txn) (window_state self.new.window.now self.new.rank self.new.txn) (said_by why)) }
         ensures explained { IfErr result (λ why. Explains self.old.window.now.shape self.old.rank.view self.new.rank.view why) }
         ensures alone { IsAlone self.old.window.now.shape self.old.rank.view → IfErr result (λ why. is_for_others why ≡ false) }
+        ensures given { OnOk result (GivesSurplus self.old.rank self.new.rank) }
         ensures free { IsFree self.new.rank.view }
         ensures recalls { Recalls self.old.rank.view self.new.rank.view }
     {
