@@ -87,6 +87,10 @@ none_there contents object = by_cases (words_at contents object)
 pub noted_more : (old new : List Place) (block : Place) → new ≡ old ++ block ∷ [] → (other : Place) → times other old ≤ times other new
 noted_more old new block is other = omega (arith, ap (times other) is, times-append other old (block ∷ []))
 
+-- where no block has moved, none came to the view's own
+pub owns_same : {N : Type 0} (before after : View N) (old new : List Place) → after.private ≡ before.private → new ≡ old → OwnsNoted before after old new
+owns_same before after old new own same block = omega (arith, ap (λ (o : List OwnBlock). times block (places_of o)) own, ap (times block) same)
+
 -- a block that was just taken may be written
 pub made_may : (shape : Shape) (reads : Contents) (old new : List Place) (block : Place) → new ≡ old ++ block ∷ [] → MayBeWritten shape reads new block
 made_may shape reads old new block is unreserved none =

@@ -73,7 +73,7 @@ pub(crate) fn take_one<L: Law>(
     ensures taken { HasTaken window.now.shape rank.new.view.private rank.new.spares taken.new.items }
     ensures noted { IfOk result (λ block. Takes window.now.shape home block rank.new.view taken.old.items taken.new.items) }
     ensures unnoted { OnErr result (taken.new.items ≡ taken.old.items) }
-    ensures owns { OnOk result (OwnsNoted rank.old.view rank.new.view taken.old.items taken.new.items) }
+    ensures owns { OwnsNoted rank.old.view rank.new.view taken.old.items taken.new.items }
     ensures only { OnlyTaken rank.old.view rank.new.view }
     ensures names { IfErr result (λ why. NamesRank home (named_by why)) }
     ensures refused { IfErr result (λ why. Explains window.now.shape rank.old.view rank.new.view why) }

@@ -21,7 +21,7 @@ loop-rank-preserved g c =
       window = c.take_into.ensures.window ∙ old.window;
       taken = c.take_into.ensures.taken;
       only = taken-then c.args.rank.now.view c.loop-rank.rank.view c.take_into.new.rank.view old.only c.take_into.ensures.only;
-      owns = λ block. omega (arith, old.owns block, c.in_default.ensures.owns block);
+      owns = λ block. omega (arith, old.owns block, c.take_into.ensures.owns block);
       grown = grows-then c.args.home c.args.taken.now.items c.loop-rank.taken.items c.take_into.new.taken.items c.args.blocks.now c.loop-rank.blocks c.take_into.new.blocks
           old.grown c.in_default.ensures.grown;
       follows = follows_trans c.args.rank.now.view c.loop-rank.rank.view c.take_into.new.rank.view old.follows c.take_into.ensures.follows;
@@ -46,3 +46,6 @@ returns-clause-more g c = λ block.
 
 pub returns-clause-owns : goal.returns-clause-owns
 returns-clause-owns g c = c.loop-rank.invariant.owns
+
+pub returns-in-Err-clause-owns : goal.returns-in-Err-clause-owns
+returns-in-Err-clause-owns g c = λ block. omega (arith, c.loop-rank.invariant.owns block, c.take_into.ensures.owns block)

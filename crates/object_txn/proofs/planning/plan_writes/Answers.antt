@@ -48,3 +48,20 @@ returns-clause-gains g c = λ block.
       ap (λ (v : View g.row.L-Note.Denot). times block (places_of v.private)) c.truths.ensures.view,
       ap (λ (v : View g.row.L-Note.Denot). times block (places_of v.private)) c.truths-2.ensures.view,
     )
+
+pub returns-in_err-plans-clause-owns : goal.returns-in_err-plans-clause-owns
+returns-in_err-plans-clause-owns g c = λ block.
+    omega (
+      arith,
+      c.plan_all.ensures.owns block,
+      ap (λ (v : View g.row.L-Note.Denot). times block (places_of v.private)) c.truths.ensures.view,
+    )
+
+pub returns-clause-owns : goal.returns-clause-owns
+returns-clause-owns g c = λ block.
+    omega (
+      arith,
+      c.plan_all.ensures.owns block,
+      ap (λ (v : View g.row.L-Note.Denot). times block (places_of v.private)) c.truths.ensures.view,
+      ap (λ (v : View g.row.L-Note.Denot). times block (places_of v.private)) c.truths-2.ensures.view,
+    )
