@@ -40,3 +40,12 @@ module _ {N : Type 0} where
     pub few : (block : Place) → times block (places_of left.view.private) ≤ times block
         (places_of before.view.private) + times block surplus
     pub given : GivesEach surplus left after
+
+  -- Once the locks were left, the rank had no more blocks of its own than before the call, but for those that the
+  -- transaction took in the call. These, and those that it had taken before, are all, and each of them is given back
+  pub record GivesTaken (taken : List Place) (before after : RankModel N) : Type 0 where
+    pub left : RankModel N
+    pub all : List Place
+    pub few : (block : Place) → times block (places_of left.view.private) + times block taken ≤ times
+        block (places_of before.view.private) + times block all
+    pub given : GivesEach all left after

@@ -43,6 +43,7 @@ pub(crate) fn make<L: Law>(
     ensures tied { IsTied window.now rank.new txn.new }
     ensures chains { OnOk result (KnowsChains rank.new.view txn.new) }
     ensures phase { txn.new.phase ≡ txn.old.phase }
+    ensures owns { OwnsNoted rank.old.view rank.new.view txn.old.taken.items txn.new.taken.items }
     ensures makes { IfOk result (λ made. Makes window.now.shape home rank.new.view txn.old txn.new made) }
     ensures names { IfErr result (λ why. NamesHome home (named_by why)) }
     ensures refused { IfErr result (λ why. Explains window.now.shape rank.old.view rank.new.view why) }

@@ -10,7 +10,7 @@ ghost use Rattle.window_rule.specs.RightsHold.{IsAlone};
 ghost use Rattle.window_rule.specs.Trails.{Follows};
 ghost use Rattle.object_txn.specs.Causes.{Explains, is_for_others};
 ghost use Rattle.object_txn.specs.Committing.{Recalls};
-ghost use Rattle.object_txn.specs.Endings.{GivesBack, GivesSurplus};
+ghost use Rattle.object_txn.specs.Endings.{GivesBack, GivesSurplus, GivesTaken};
 ghost use Rattle.object_txn.specs.State.{said_by, window_state};
 ghost use Rattle.object_txn.specs.Tied.{IsFree, IsNone, IsTied, KnowsChains};
 
@@ -184,6 +184,7 @@ impl<'a, L: Law> WindowStore<'a, L> {
         ensures refused { IfErr result (λ why. RefusesFresh home (window_state self.old.window.now self.old.rank self.old.txn) (window_state self.new.window.now self.new.rank self.new.txn) (said_by why)) }
         ensures explained { IfErr result (λ why. Explains self.old.window.now.shape self.old.rank.view self.new.rank.view why) }
         ensures alone { IsAlone self.old.window.now.shape self.old.rank.view → IfErr result (λ why. is_for_others why ≡ false) }
+        ensures given_back { OnErr result (GivesTaken self.old.txn.taken.items self.old.rank self.new.rank) }
         ensures free { OnErr result (IsFree self.new.rank.view) }
         ensures follows { Follows self.old.rank.view self.new.rank.view }
     {
@@ -211,6 +212,7 @@ impl<'a, L: Law> WindowStore<'a, L> {
         ensures explained { IfErr result (λ why. Explains self.old.window.now.shape self.old.rank.view self.new.rank.view why) }
         ensures alone { IsAlone self.old.window.now.shape self.old.rank.view → IfErr result (λ why. is_for_others why ≡ false) }
         ensures given { OnOk result (GivesSurplus self.old.rank self.new.rank) }
+        ensures given_back { OnErr result (GivesTaken self.old.txn.taken.items self.old.rank self.new.rank) }
         ensures free { IsFree self.new.rank.view }
         ensures recalls { Recalls self.old.rank.view self.new.rank.view }
     {

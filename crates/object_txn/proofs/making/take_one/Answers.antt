@@ -71,4 +71,3 @@ pub returns-in-Err-Worn-clause-owns : goal.returns-in-Err-Worn-clause-owns
 returns-in-Err-Worn-clause-owns g c =
     owns_same c.args.rank.now.view c.take.new.rank.view c.args.taken.now.items c.has_room.new.taken.items
     (ap (λ (v : View g.row.L-Note.Denot). v.private) c.in-Err-Worn.ensures.taken.unmoved) c.has_room.ensures.items
-

@@ -93,3 +93,16 @@ returns-in-Ok-clause-given g c =
       );
       given = back.all.given;
     }
+
+pub returns-in-Err-clause-given_back : goal.returns-in-Err-clause-given_back
+returns-in-Err-clause-given_back g c =
+    let back = c.end_all.ensures.given in record {
+      left = back.left;
+      all = c.plan_writes.new.txn.taken.items;
+      few = λ block. omega (
+        arith,
+        c.plan_writes.ensures.owns block,
+        ap (λ (own : List OwnBlock). times block (places_of own)) back.private,
+      );
+      given = back.given;
+    }
