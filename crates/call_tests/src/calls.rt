@@ -3,11 +3,13 @@ ghost use Rattle.object_store.specs.declared.phase.Phase.TheVariants.{Idle, Writ
 ghost use Rattle.held_objects.specs.Knows.{Knows};
 ghost use Rattle.graph_law.specs.Calls.{Stands};
 
+use fabric::Window;
 use gdi_kinds::{Kind, Name, Reply};
 use graph_law::GraphLaw;
 use graph_names::{new_label, new_type};
 use graph_vertices::has_vertex;
 use object_store::{PlainStore, Store};
+use object_txn::WindowStore;
 use rma_layout::Geometry;
 use std::alloc::Global;
 use std::test::Fail;
@@ -46,6 +48,22 @@ fn name_and_ask<S: Store<GraphLaw>>(
 fn names_are_made_once(rt: HostRuntime) -> Result<(), Fail> {
     let person = Name::of(b"Person").ok_or("a name")?;
     let mut store = PlainStore::<GraphLaw>::new(rt.alloc(), Geometry::standard())?;
+    let Ok(replies) = name_and_ask(rt.alloc(), &mut store, &person) else {
+        return Err("refused".into());
+    };
+    assert!(rt; matches!(&replies.label, Reply::Done));
+    assert!(rt; matches!(&replies.again, Reply::Exists));
+    assert!(rt; matches!(&replies.typed, Reply::Done));
+    assert!(rt; matches!(&replies.has, Reply::No));
+    Ok(())
+}
+
+#[test]
+fn names_are_made_once_in_a_window(rt: HostRuntime) -> Result<(), Fail> {
+    let person = Name::of(b"Person").ok_or("a name")?;
+    let geometry = Geometry::new(1, 64, 64, 2, 2)?;
+    let (window, rank) = Window::<GraphLaw>::new(rt.alloc(), geometry)?;
+    let mut store = WindowStore::over(rt.alloc(), &window, rank);
     let Ok(replies) = name_and_ask(rt.alloc(), &mut store, &person) else {
         return Err("refused".into());
     };

@@ -100,3 +100,9 @@ gives_none {N} rank items none = record {
   spares = refl;
   given = subst (λ (l : List Place). GivesEach l rank rank) (sym none) refl;
 }
+
+-- some are given back, and then others
+pub gives_then : {N : Type 0} (some more : List Place) (first mid last : RankModel N) → GivesEach some first mid → GivesEach more mid last
+    → GivesEach (more ++ some) first last
+gives_then {N} some [] first mid last one two = subst (GivesEach some first) (sym two) one
+gives_then {N} some (block ∷ more) first mid last one two = (two.0, gives_then some more first mid two.0 one two.1, two.2)

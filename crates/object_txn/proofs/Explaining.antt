@@ -1,5 +1,5 @@
 -- A refusal stays explained.
-use Rattle.std.proofs.Common.{ℕ, ◌<◌, ◌≤◌, ◌==◌, cond, List, ◌++◌, sym, ap, ◌∙◌, subst, arith, append_assoc}
+use Rattle.std.proofs.Common.{◌≡◌, false, refl, ℕ, ◌<◌, ◌≤◌, ◌==◌, cond, List, ◌++◌, sym, ap, ◌∙◌, subst, arith, append_assoc}
 use Rattle.std.specs.List.{count_by}
 use Rattle.std.proofs.lemmas.List.Elements.{Contains-append_left, Contains-append_right}
 use Rattle.std.proofs.lemmas.List.Sums.{sum_by-append}
@@ -14,7 +14,7 @@ use Rattle.object_store.specs.Sound.{StaysExplained}
 use Rattle.object_txn.specs.declared.refused.TxnRefused.{TxnRefused}
 use Rattle.object_txn.specs.declared.refused.TxnRefused.TheVariants.{Busy, GateBusy, Empty, PoolBusy, Worn, NoMemory}
 use Rattle.object_txn.specs.Committing.{Recalls}
-use Rattle.object_txn.specs.Causes.{Explains, Gained, HasLooked, HasMissed, WasRefused}
+use Rattle.object_txn.specs.Causes.{Explains, Gained, HasLooked, HasMissed, WasRefused, is_for_others}
 
 abbrev gained_later : {X : Type 0} (before mid now : List X) → Gained before mid → IsPrefix mid now → Gained before now
 gained_later before mid now g p =
@@ -128,3 +128,23 @@ module _ {N : Type 0} (shape : Shape) where
     later = λ first why was. recalls_later first before after why follows was;
     earlier = λ last why was. recalls_earlier before after last why follows was;
   }
+
+-- so it does for whatever has a shape and a view
+pub explained_of : {N S : Type 0} (shape_of : S → Shape) (view_of : S → View N) (old new : S) → shape_of new ≡ shape_of old
+    → Recalls (view_of old) (view_of new)
+    → StaysExplained {S = S} {R = TxnRefused} (λ first last why. Explains (shape_of first) (view_of first) (view_of last) why) old new
+explained_of {N} {S} shape_of view_of old new same recalls = record {
+  later = λ first why was. recalls_later (shape_of first) (view_of first) (view_of old) (view_of new) why recalls was;
+  earlier = λ last why was. recalls_earlier (shape_of old) (view_of old) (view_of new) (view_of last) why recalls
+      (subst (λ shape. Explains shape (view_of new) (view_of last) why) same was);
+}
+
+-- nobody stands in the way of a rank that is alone
+pub never_for_others : {N : Type 0} (shape : Shape) (before after : View N) (why : TxnRefused) → Explains shape before after why → IsAlone shape before
+    → is_for_others why ≡ false
+never_for_others shape before after (Busy object want word) was alone = absurd (was.not_alone alone)
+never_for_others shape before after (GateBusy word) was alone = absurd (was.not_alone alone)
+never_for_others shape before after (Empty rank head) was alone = refl
+never_for_others shape before after (PoolBusy rank loaded seen) was alone = absurd (was.not_alone alone)
+never_for_others shape before after (Worn rank head) was alone = refl
+never_for_others shape before after NoMemory was alone = refl

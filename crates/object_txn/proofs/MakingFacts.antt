@@ -30,6 +30,7 @@ use Rattle.block_pool.specs.declared.refused.PoolRefused.{PoolRefused}
 use Rattle.block_pool.specs.declared.refused.PoolRefused.TheVariants as pool
 use Rattle.object_txn.specs.Causes.{Explains, HasLooked}
 use Rattle.object_txn.specs.declared.refused.TxnRefused.TheVariants.{Empty, PoolBusy, Worn}
+use Rattle.object_txn.specs.Moves.{OwnsNoted}
 use Rattle.object_txn.specs.Tied.{HasTaken, HasWritten, MayBeWritten, words_in}
 use Rattle.object_txn.specs.declared.txn.Txn.{Txn}
 
@@ -86,6 +87,10 @@ none_there contents object = by_cases (words_at contents object)
 pub noted_more : (old new : List Place) (block : Place) → new ≡ old ++ block ∷ [] → (other : Place) → times other old ≤ times other new
 noted_more old new block is other = omega (arith, ap (times other) is, times-append other old (block ∷ []))
 
+-- where no block has moved, none came to the view's own
+pub owns_same : {N : Type 0} (before after : View N) (old new : List Place) → after.private ≡ before.private → new ≡ old → OwnsNoted before after old new
+owns_same before after old new own same block = omega (arith, ap (λ (o : List OwnBlock). times block (places_of o)) own, ap (times block) same)
+
 -- a block that was just taken may be written
 pub made_may : (shape : Shape) (reads : Contents) (old new : List Place) (block : Place) → new ≡ old ++ block ∷ [] → MayBeWritten shape reads new block
 made_may shape reads old new block is unreserved none =
@@ -136,6 +141,12 @@ module _ {N : Type 0} (shape : Shape) (home : ℕ) (before after : RankModel N) 
       by_cases : (n : ℕ) → times block items ≡ n → n ≡ 0
       by_cases zero e = refl
       by_cases (suc n) e = absurd (never (omega (arith, e)) from)
+
+  -- a block that was taken is noted
+  pub owns_taken : (new : List Place) → new ≡ items ++ block ∷ [] → takes.TakesFree home block before after ⊎ takes.TakesSpare home block before after
+      → OwnsNoted before.view after.view items new
+  owns_taken new is (inl free) b = omega (arith, ap (λ (v : View N). times b (places_of v.private)) free.pops.view, ap (times b) is, times-append b items (block ∷ []))
+  owns_taken new is (inr spare) b = omega (arith, ap (λ (v : View N). times b (places_of v.private)) spare.unmoved, ap (times b) is, times-append b items (block ∷ []))
 
   -- the blocks that are noted are for use
   pub taken_more : (new : List Place) → times block items ≡ 0 → new ≡ items ++ block ∷ [] → MayBeFree shape home block

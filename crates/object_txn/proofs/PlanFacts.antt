@@ -8,7 +8,7 @@ use Rattle.rma_layout.specs.Shape.{Shape}
 use Rattle.rma_layout.specs.Placement.{Place, same_place}
 use Rattle.object_words.specs.Blocks.{one_if}
 use Rattle.object_words.specs.Contents.{Contents, content_of, words_at}
-use Rattle.window_rule.specs.View.{View, Dirt, Known}
+use Rattle.window_rule.specs.View.{View, Dirt, Known, OwnBlock}
 use Rattle.window_rule.specs.Commit.{WasRead, attached_of}
 use Rattle.window_rule.specs.ContentsHold.{Lasts}
 use Rattle.window_rule.specs.Detach.{MayDetach}
@@ -123,6 +123,23 @@ module _ {N : Type 0} (shape : Shape) (reads writes : Contents) (before after : 
       ≤ times block (places_of before.view.private) + times block (surplus_in (plan ∷ more)))
       → (block : Place) → times block (surplus_in all) + taken_for block more ≤ times block (places_of after.view.private) + times block (surplus_in more)
   surplus_less all more was block =
+      let counted : times block plan.blocks ≡ times block ready.may.known.chain + times block ready.may.extras =
+      ap (times block) ready.may.are ∙ times-append block ready.may.known.chain ready.may.extras in
+      let behind = ap (times block) (extras_are shape plan.at plan.blocks plan.kept (content_of reads plan.at) (content_of writes plan.at) before ready.may) in
+      let split : times block plan.blocks ≡ times block chain + times block (drop plan.used plan.blocks) =
+      sym (ap (times block) (take-append-drop (chain_length shape plan.at (content_of writes plan.at)) plan.blocks))
+      ∙ (times-append block chain (drop (chain_length shape plan.at (content_of writes plan.at)) plan.blocks)
+      ∙ ap (λ n. times block chain + times block (drop n plan.blocks)) (sym ready.used_is)) in
+      let left = times-append block (drop plan.used plan.blocks) (surplus_in more) in
+      let known = ap (λ (k : Known). times block k.chain) same_known in
+      omega (arith, was block, told.exchanged block, counted, behind, split, left, known)
+
+  -- each block that was taken went to its object, and what is left over of that is the rank's own
+  pub exchanged_less : (all more : List Plan) (first : List OwnBlock) → ((block : Place) → times block (places_of before.view.private) + taken_for block all
+      + times block (surplus_in (plan ∷ more)) ≡ times block (places_of first) + times block (surplus_in all) + taken_for block (plan ∷ more))
+      → (block : Place) → times block (places_of after.view.private) + taken_for block all + times block (surplus_in more)
+      ≡ times block (places_of first) + times block (surplus_in all) + taken_for block more
+  exchanged_less all more first was block =
       let counted : times block plan.blocks ≡ times block ready.may.known.chain + times block ready.may.extras =
       ap (times block) ready.may.are ∙ times-append block ready.may.known.chain ready.may.extras in
       let behind = ap (times block) (extras_are shape plan.at plan.blocks plan.kept (content_of reads plan.at) (content_of writes plan.at) before ready.may) in

@@ -209,6 +209,7 @@ module _ (shape : Shape) (writes : Contents) (all : List (Place × Known)) (firs
           objects_now block,
           start_there plan.at chain block,
         );
+        since = λ block. omega (arith, was.since block, taken_after block, taken_now block);
       }
 
   -- an object that isn't written is passed over
@@ -223,6 +224,7 @@ module _ (shape : Shape) (writes : Contents) (all : List (Place × Known)) (firs
     ];
     apart = λ other waits. was.apart other (still other (same_place object other) waits);
     own_only = was.own_only;
+    since = was.since;
   }
     where
       still : (other : Place) (b : Bool) → blocks_of left other ≢ None → cond b (Some chain) (blocks_of left other) ≢ None
@@ -256,6 +258,7 @@ module _ (shape : Shape) (writes : Contents) (all : List (Place × Known)) (firs
     every = λ object some. inr (noted object some);
     apart = λ object waits. refl;
     own_only = λ block there. omega arith;
+    since = λ block. omega arith;
   }
 
   pub plans_done : (left : Chains) (taken : List Place) (plans : List Plan) → left ≡ [] → ArePlansBut shape writes all first taken left plans

@@ -1,5 +1,5 @@
 -- Why a call of a store over a window is refused: what its rank has seen between two moments.
-use Rattle.std.specs.Prelude.{◌≡◌, ℕ, ◌==◌, ◌≤◌, List, ◌++◌}
+use Rattle.std.specs.Prelude.{◌≡◌, Bool, true, false, ℕ, ◌==◌, ◌≤◌, List, ◌++◌}
 use Rattle.std.specs.List.{Contains, count_by}
 use Rattle.rma_layout.specs.Shape.{Shape}
 use Rattle.lock_words.specs.declared.want.Want.{Want}
@@ -11,6 +11,7 @@ use Rattle.window_rule.specs.RightsHold.{IsAlone}
 use Rattle.block_pool.specs.Moves.{IsUnworn, IsWorn}
 use Rattle.object_txn.specs.declared.refused.TxnRefused.{TxnRefused}
 use Rattle.object_txn.specs.declared.refused.TxnRefused.TheVariants.{Busy, GateBusy, Empty, PoolBusy, Worn, NoMemory}
+use Rattle.object_txn.specs.State.{is_for_memory}
 
 -- what came since
 pub record Gained {X : Type 0} (before after : List X) : Type 0 where
@@ -51,3 +52,22 @@ module _ {N : Type 0} where
       HasMissed shape rank loaded seen before after
   Explains shape before after (Worn rank head) = HasLooked rank head before after × IsWorn head
   Explains shape before after NoMemory = Unit {0}
+
+  -- that no memory was found explains itself
+  pub explained_for_memory : (shape : Shape) (before after : View N) (why : TxnRefused)
+      → is_for_memory why ≡ true → Explains shape before after why
+  explained_for_memory shape before after (Busy object want word) never = absurd (cc never)
+  explained_for_memory shape before after (GateBusy word) never = absurd (cc never)
+  explained_for_memory shape before after (Empty rank head) never = absurd (cc never)
+  explained_for_memory shape before after (PoolBusy rank loaded seen) never = absurd (cc never)
+  explained_for_memory shape before after (Worn rank head) never = absurd (cc never)
+  explained_for_memory shape before after NoMemory is = tt
+
+-- somebody else stood in the way. That never comes to a rank that is alone
+abbrev pub is_for_others : TxnRefused → Bool
+is_for_others (Busy object want word) = true
+is_for_others (GateBusy word) = true
+is_for_others (Empty rank head) = false
+is_for_others (PoolBusy rank loaded seen) = true
+is_for_others (Worn rank head) = false
+is_for_others NoMemory = false

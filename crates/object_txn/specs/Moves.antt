@@ -1,5 +1,5 @@
 -- What the parts of a call make of a view and of a transaction.
-use Rattle.std.specs.Prelude.{◌≡◌, ◌≢◌, ℕ, ◌<◌, ◌⊎◌, List, [], ◌∷◌, ◌++◌, Some, None, is_some, if◌then◌else◌}
+use Rattle.std.specs.Prelude.{◌≡◌, ◌≢◌, ℕ, ◌+◌, ◌<◌, ◌≤◌, ◌⊎◌, List, [], ◌∷◌, ◌++◌, Some, None, is_some, if◌then◌else◌}
 use Rattle.rma_layout.specs.Shape.{Shape}
 use Rattle.rma_layout.specs.Placement.{Place}
 use Rattle.object_words.specs.Contents.{content_of, with_words, words_at}
@@ -71,3 +71,9 @@ pub record Makes {N : Type 0} (shape : Shape) (home : ℕ) (after : View N) (old
   pub unread : content_of old.reads made ≡ []
   pub reads : new.reads ≡ with_words old.reads made []
   pub writes : new.writes ≡ with_words old.writes made []
+
+-- no block came to the view's own but such as were noted
+abbrev pub OwnsNoted : {N : Type 0} → View N → View N → List Place → List Place → Type 0
+OwnsNoted before after old new = (block : Place)
+    → times block (places_of after.private) + times block old ≤ times block (places_of before.private)
+    + times block new

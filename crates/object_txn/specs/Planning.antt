@@ -1,5 +1,5 @@
 -- Which blocks the objects that a transaction has written are to have.
-use Rattle.std.specs.Prelude.{◌≡◌, ◌≢◌, ℕ, ◌<◌, ◌≤◌, ◌⊎◌, List, [], ◌∷◌, ◌++◌, length, Some, None}
+use Rattle.std.specs.Prelude.{◌≡◌, ◌≢◌, ℕ, ◌+◌, ◌<◌, ◌≤◌, ◌⊎◌, List, [], ◌∷◌, ◌++◌, length, Some, None}
 use Rattle.std.specs.List.{AllByRecursion}
 use Rattle.rma_layout.specs.Shape.{Shape}
 use Rattle.rma_layout.specs.Placement.{Place}
@@ -81,3 +81,5 @@ pub record ArePlansBut (shape : Shape) (writes : Contents) (all : List (Place ×
       → times object (objects_in plans) ≡ 0
   pub own_only : (block : Place) → 0 < times block first
       → taken_for block plans ≤ times block (objects_in plans)
+  -- what was taken since is for one of them
+  pub since : (block : Place) → times block taken ≤ times block first + taken_for block plans

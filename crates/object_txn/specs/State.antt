@@ -1,5 +1,5 @@
 -- A window under a rank, as a store.
-use Rattle.std.specs.Prelude.{◌==◌, Bool, [], None}
+use Rattle.std.specs.Prelude.{refl, ◌≡◌, ◌==◌, Bool, true, [], None}
 use Rattle.std.specs.List.{list_all}
 use Rattle.window_rule.specs.View.{GatePlace, Outside, AsWriter}
 use Rattle.window_rule.specs.Spares.{SpareEnds}
@@ -62,3 +62,11 @@ is_for_memory NoMemory = Bool.true
 abbrev pub said_by : TxnRefused → Said
 said_by why =
     record { names = named_by why; for_memory = is_for_memory why; passing = Bool.false }
+
+pub said_for_memory : (why : TxnRefused) → (said_by why).for_memory ≡ true → why ≡ NoMemory
+said_for_memory (Busy object want word) never = absurd (cc never)
+said_for_memory (GateBusy word) never = absurd (cc never)
+said_for_memory (Empty rank head) never = absurd (cc never)
+said_for_memory (PoolBusy rank loaded seen) never = absurd (cc never)
+said_for_memory (Worn rank head) never = absurd (cc never)
+said_for_memory NoMemory is = refl

@@ -1,4 +1,4 @@
-ghost use Rattle.std.specs.Prelude.{◌≡◌, ◌≢◌, ◌<◌, ◌≤◌, ◌%◌, List, [], drop, length, None};
+ghost use Rattle.std.specs.Prelude.{◌≡◌, ◌≢◌, ◌+◌, ◌<◌, ◌≤◌, ◌%◌, List, [], drop, length, None};
 ghost use Rattle.rma_layout.specs.Placement.{Place};
 ghost use Rattle.window_rule.specs.Commit.{entry_by};
 ghost use Rattle.window_rule.specs.Locks.{hold_of};
@@ -8,8 +8,9 @@ ghost use Rattle.window_rule.specs.Truths.{IsTrueView};
 ghost use Rattle.block_pool.specs.Gives.{IsForUse, OnlyBlocks};
 ghost use Rattle.object_store.specs.declared.phase.Phase.TheVariants.{Writing};
 ghost use Rattle.object_txn.specs.Committing.{Enters};
+ghost use Rattle.object_txn.specs.Endings.{GivesAll, GivesLeft};
 ghost use Rattle.object_txn.specs.Planning.{AreAllPlans};
-ghost use Rattle.object_txn.specs.Plans.{surplus_in};
+ghost use Rattle.object_txn.specs.Plans.{surplus_in, taken_for};
 ghost use Rattle.object_txn.specs.State.{gate_of};
 ghost use Rattle.object_txn.specs.Tied.{HasLocks, HasTaken, IsFree, IsNone, IsTied};
 
@@ -47,6 +48,7 @@ pub(crate) fn write_planned<L: Law, C: Carries<L>>(
     ensures gate { rank.new.view.gate ≡ gate_of txn.now.phase }
     ensures clean { rank.new.view.dirty ≡ [] }
     ensures closed { rank.new.view.stamps.opened ≡ [] }
+    ensures exchanged { (block : Place) → times block (places_of rank.new.view.private) + taken_for block plans.now ≡ times block (places_of rank.old.view.private) + times block (surplus_in plans.now) }
     ensures surplus { HasTaken window.now.shape rank.new.view.private rank.new.spares (surplus_in plans.now) }
 {
     txn.held.keeps_lasting();
@@ -75,6 +77,7 @@ pub(crate) fn leave_committed<L: Law>(
     ensures tied { IsTied window.now rank.new txn.new }
     ensures ended { IsNone txn.new }
     ensures free { IsFree rank.new.view }
+    ensures given { GivesLeft (surplus_in plans.now) rank.old rank.new }
     ensures seen { rank.new.view.seen ≡ rank.old.view.seen }
     ensures truths { IsTrueView L.fits window.now.shape rank.new.view }
     ensures follows { Follows rank.old.view rank.new.view }
@@ -95,6 +98,7 @@ fn give_surplus<L: Law>(window: &Window<L>, rank: &mut Rank<L>, plans: &[Plan])
     requires clean { rank.old.view.dirty ≡ [] }
     ensures window { rank.new.window ≡ rank.old.window }
     ensures view { OnlyBlocks rank.old.view rank.new.view }
+    ensures given { GivesAll (surplus_in plans.now) rank.old rank.new }
     ensures follows { Follows rank.old.view rank.new.view }
 {
     for plan in plans {
@@ -112,6 +116,7 @@ fn give_behind<L: Law>(window: &Window<L>, rank: &mut Rank<L>, blocks: &Blocks, 
     ensures view { OnlyBlocks rank.old.view rank.new.view }
     ensures stay { (other : Place) → times other (drop used blocks.now) ≡ 0 → IsForUse window.now.shape rank.old other
         → IsForUse window.now.shape rank.new other }
+    ensures given { GivesAll (drop used blocks.now) rank.old rank.new }
     ensures follows { Follows rank.old.view rank.new.view }
 {
     for index in used..blocks.len() as u64 {

@@ -14,7 +14,7 @@ ghost use Rattle.object_store.specs.declared.phase.Phase.TheVariants.{Writing};
 ghost use Rattle.object_store.specs.State.{names_nothing, names_rank};
 ghost use Rattle.object_txn.specs.State.{named_by};
 ghost use Rattle.object_txn.specs.Causes.{Explains};
-ghost use Rattle.object_txn.specs.Moves.{Makes, NamesHome, NamesRank, Takes};
+ghost use Rattle.object_txn.specs.Moves.{Makes, NamesHome, NamesRank, OwnsNoted, Takes};
 ghost use Rattle.object_txn.specs.Tied.{HasTaken, IsTied, KnowsChains, words_in};
 
 use crate::locking::mark;
@@ -43,6 +43,7 @@ pub(crate) fn make<L: Law>(
     ensures tied { IsTied window.now rank.new txn.new }
     ensures chains { OnOk result (KnowsChains rank.new.view txn.new) }
     ensures phase { txn.new.phase ≡ txn.old.phase }
+    ensures owns { OwnsNoted rank.old.view rank.new.view txn.old.taken.items txn.new.taken.items }
     ensures makes { IfOk result (λ made. Makes window.now.shape home rank.new.view txn.old txn.new made) }
     ensures names { IfErr result (λ why. NamesHome home (named_by why)) }
     ensures refused { IfErr result (λ why. Explains window.now.shape rank.old.view rank.new.view why) }
@@ -73,6 +74,7 @@ pub(crate) fn take_one<L: Law>(
     ensures taken { HasTaken window.now.shape rank.new.view.private rank.new.spares taken.new.items }
     ensures noted { IfOk result (λ block. Takes window.now.shape home block rank.new.view taken.old.items taken.new.items) }
     ensures unnoted { OnErr result (taken.new.items ≡ taken.old.items) }
+    ensures owns { OwnsNoted rank.old.view rank.new.view taken.old.items taken.new.items }
     ensures only { OnlyTaken rank.old.view rank.new.view }
     ensures names { IfErr result (λ why. NamesRank home (named_by why)) }
     ensures refused { IfErr result (λ why. Explains window.now.shape rank.old.view rank.new.view why) }

@@ -1,9 +1,9 @@
-ghost use Rattle.std.specs.Prelude.{◌≡◌, ◌≢◌, ◌<◌, ◌≤◌, ◌⊎◌, ℕ, List, [], ◌∷◌, ◌++◌, length, Some, None, IfErr, IfOk, OnErr, OnOk};
+ghost use Rattle.std.specs.Prelude.{◌≡◌, ◌≢◌, ◌+◌, ◌<◌, ◌≤◌, ◌⊎◌, ℕ, List, [], ◌∷◌, ◌++◌, length, Some, None, IfErr, IfOk, OnErr, OnOk};
 ghost use Rattle.rma_layout.specs.Placement.{IsBlock, Place};
 ghost use Rattle.object_words.specs.Contents.{words_at};
 ghost use Rattle.window_rule.specs.Known.{known_of};
 ghost use Rattle.window_rule.specs.Objects.{LiesAt};
-ghost use Rattle.window_rule.specs.Partition.{times};
+ghost use Rattle.window_rule.specs.Partition.{places_of, times};
 ghost use Rattle.window_rule.specs.Trails.{Follows};
 ghost use Rattle.window_rule.specs.Truths.{IsTrueView};
 ghost use Rattle.block_pool.specs.Moves.{OnlyTaken};
@@ -12,8 +12,9 @@ ghost use Rattle.object_moves.specs.Noted.{blocks_of};
 ghost use Rattle.object_store.specs.declared.phase.Phase.TheVariants.{Writing};
 ghost use Rattle.object_store.specs.State.{names_nothing, names_rank};
 ghost use Rattle.object_txn.specs.Causes.{Explains};
-ghost use Rattle.object_txn.specs.Moves.{NamesRank};
+ghost use Rattle.object_txn.specs.Moves.{NamesRank, OwnsNoted};
 ghost use Rattle.object_txn.specs.Planning.{AreAllPlans, Grows, Plans, PlansNext, own_start};
+ghost use Rattle.object_txn.specs.Plans.{taken_for};
 ghost use Rattle.object_txn.specs.State.{named_by};
 ghost use Rattle.object_txn.specs.Tied.{HasTaken, IsTied, KnowsChains, chain_known};
 
@@ -42,7 +43,9 @@ pub(crate) fn plan_writes<L: Law>(
     requires chains { KnowsChains rank.old.view txn.old }
     ensures tied { IsTied window.now rank.new txn.new }
     ensures same { txn.new ≡ record txn.old { chains = txn.new.chains; taken = txn.new.taken } }
+    ensures owns { OwnsNoted rank.old.view rank.new.view txn.old.taken.items txn.new.taken.items }
     ensures plans { IfOk result (λ plans. AreAllPlans window.now.shape txn.new.writes rank.new.view.known txn.new.taken.items plans.items) }
+    ensures gains { IfOk result (λ plans. (block : Place) → times block (places_of rank.new.view.private) ≤ times block (places_of rank.old.view.private) + taken_for block plans.items) }
     ensures truths { OnOk result (IsTrueView L.fits window.now.shape rank.new.view) }
     ensures names { IfErr result (λ why. (home : ℕ) × NamesRank home (named_by why)) }
     ensures refused { IfErr result (λ why. Explains window.now.shape rank.old.view rank.new.view why) }
@@ -83,6 +86,8 @@ fn plan_all<L: Law>(
     ensures more { (block : Place) → times block taken.old.items ≤ times block taken.new.items }
     ensures only { OnlyTaken rank.old.view rank.new.view }
     ensures plans { IfOk result (λ plans. AreAllPlans window.now.shape writes.now rank.old.view.known taken.new.items plans.items) }
+    ensures owns { OwnsNoted rank.old.view rank.new.view taken.old.items taken.new.items }
+    ensures gains { IfOk result (λ plans. (block : Place) → times block (places_of rank.new.view.private) ≤ times block (places_of rank.old.view.private) + taken_for block plans.items) }
     ensures names { IfErr result (λ why. (home : ℕ) × NamesRank home (named_by why)) }
     ensures refused { IfErr result (λ why. Explains window.now.shape rank.old.view rank.new.view why) }
     ensures follows { Follows rank.old.view rank.new.view }
@@ -113,6 +118,7 @@ fn plan_next<L: Law>(
     ensures taken { HasTaken window.now.shape rank.new.view.private rank.new.spares taken.new.items }
     ensures more { (block : Place) → times block taken.old.items ≤ times block taken.new.items }
     ensures only { OnlyTaken rank.old.view rank.new.view }
+    ensures owns { OwnsNoted rank.old.view rank.new.view taken.old.items taken.new.items }
     ensures next { OnOk result (PlansNext window.now.shape writes.now at blocks taken.old.items taken.new.items plans.old.items plans.new.items) }
     ensures names { IfErr result (λ why. NamesRank at.rank (named_by why)) }
     ensures refused { IfErr result (λ why. Explains window.now.shape rank.old.view rank.new.view why) }
@@ -152,6 +158,7 @@ fn plan_one<L: Law>(
     ensures taken { HasTaken window.now.shape rank.new.view.private rank.new.spares taken.new.items }
     ensures more { (block : Place) → times block taken.old.items ≤ times block taken.new.items }
     ensures only { OnlyTaken rank.old.view rank.new.view }
+    ensures owns { OwnsNoted rank.old.view rank.new.view taken.old.items taken.new.items }
     ensures object { IfOk result (λ plan. plan.at ≡ at) }
     ensures plan { IfOk result (λ plan. Plans window.now.shape blocks words taken.old.items taken.new.items plan) }
     ensures names { IfErr result (λ why. NamesRank at.rank (named_by why)) }
@@ -206,6 +213,7 @@ fn grow<L: Law>(
     ensures taken { HasTaken window.now.shape rank.new.view.private rank.new.spares taken.new.items }
     ensures more { (block : Place) → times block taken.old.items ≤ times block taken.new.items }
     ensures only { OnlyTaken rank.old.view rank.new.view }
+    ensures owns { OwnsNoted rank.old.view rank.new.view taken.old.items taken.new.items }
     ensures grown { OnOk result (Grows home taken.old.items taken.new.items blocks.old blocks.new) }
     ensures enough { OnOk result (count ≤ length blocks.new) }
     ensures names { IfErr result (λ why. NamesRank home (named_by why)) }
@@ -235,6 +243,7 @@ fn take_into<L: Law>(
     ensures taken { HasTaken window.now.shape rank.new.view.private rank.new.spares taken.new.items }
     ensures more { (block : Place) → times block taken.old.items ≤ times block taken.new.items }
     ensures only { OnlyTaken rank.old.view rank.new.view }
+    ensures owns { OwnsNoted rank.old.view rank.new.view taken.old.items taken.new.items }
     ensures grown { OnOk result (Grows home taken.old.items taken.new.items blocks.old blocks.new) }
     ensures longer { OnOk result (length blocks.old < length blocks.new) }
     ensures names { IfErr result (λ why. NamesRank home (named_by why)) }

@@ -1,10 +1,10 @@
-ghost use Rattle.std.specs.Prelude.{◌≡◌, ◌≤◌, []};
+ghost use Rattle.std.specs.Prelude.{◌≡◌, ◌+◌, ◌≤◌, []};
 ghost use Rattle.rma_layout.specs.Placement.{Place};
 ghost use Rattle.object_words.specs.Contents.{content_of};
 ghost use Rattle.window_rule.specs.Partition.{places_of, times};
 ghost use Rattle.window_rule.specs.Spares.{IsNoSpare};
 ghost use Rattle.window_rule.specs.Trails.{Follows};
-ghost use Rattle.object_txn.specs.Plans.{ArePlanned, AreWritten, HasRoom, OnlyStored, surplus_in};
+ghost use Rattle.object_txn.specs.Plans.{ArePlanned, AreWritten, HasRoom, OnlyStored, surplus_in, taken_for};
 
 use crate::plan::Plan;
 use fabric::{Rank, Window};
@@ -32,6 +32,7 @@ pub(crate) fn rewrite_all<L: Law>(
     ensures only { OnlyStored rank.old.view rank.new.view }
     ensures written { AreWritten reads.now writes.now [] rank.new.view }
     ensures room { HasRoom window.now.shape [] rank.new.view }
+    ensures exchanged { (block : Place) → times block (places_of rank.new.view.private) + taken_for block plans.now ≡ times block (places_of rank.old.view.private) + times block (surplus_in plans.now) }
     ensures surplus { (block : Place) → times block (surplus_in plans.now) ≤ times block (places_of rank.new.view.private) }
     ensures no_spare { (block : Place) → IsNoSpare window.now.shape rank.old.view.private rank.old.spares block
         → IsNoSpare window.now.shape rank.new.view.private rank.new.spares block }

@@ -1,4 +1,4 @@
-ghost use Rattle.std.specs.Prelude.{◌≡◌, ◌≢◌, ◌<◌, ◌≤◌, length, IfErr, IfOk, OnErr};
+ghost use Rattle.std.specs.Prelude.{◌≡◌, ◌≢◌, ◌<◌, ◌≤◌, false, length, IfErr, IfOk, OnErr, OnOk};
 ghost use Rattle.rma_layout.specs.declared.limits.TheConstants.{MOST_WORDS};
 ghost use Rattle.rma_layout.specs.Placement.{IsBlock};
 ghost use Rattle.object_store.specs.declared.phase.Phase.TheVariants.{Idle, Reading, Writing};
@@ -6,12 +6,15 @@ ghost use Rattle.object_store.specs.Sound.{Continues, IsSound};
 ghost use Rattle.object_store.specs.State.{next_entry};
 ghost use Rattle.object_store.specs.Calls.{Aborts, Begins, Commits, Finishes, MakesObject, MayWrite, ReadsObject, WritesObject};
 ghost use Rattle.object_store.specs.Refusals.{RefusesAccess, RefusesBegin, RefusesCommit, RefusesFresh};
+ghost use Rattle.window_rule.specs.RightsHold.{IsAlone};
 ghost use Rattle.window_rule.specs.Trails.{Follows};
-ghost use Rattle.object_txn.specs.Causes.{Explains};
+ghost use Rattle.object_txn.specs.Causes.{Explains, is_for_others};
 ghost use Rattle.object_txn.specs.Committing.{Recalls};
-ghost use Rattle.object_txn.specs.Endings.{GivesBack};
+ghost use Rattle.object_txn.specs.Endings.{GivesBack, GivesSurplus, GivesTaken};
 ghost use Rattle.object_txn.specs.State.{said_by, window_state};
 ghost use Rattle.object_txn.specs.Tied.{IsFree, IsNone, IsTied, KnowsChains};
+
+mod calls;
 
 use crate::committing::{leave_committed, write_planned};
 use crate::ending::end_all;
@@ -96,6 +99,7 @@ impl<'a, L: Law> WindowStore<'a, L> {
         ensures done { IfOk result (λ _. Begins writing (window_state self.old.window.now self.old.rank self.old.txn) (window_state self.new.window.now self.new.rank self.new.txn)) }
         ensures refused { IfErr result (λ why. RefusesBegin writing (window_state self.old.window.now self.old.rank self.old.txn) (window_state self.new.window.now self.new.rank self.new.txn) (said_by why)) }
         ensures explained { IfErr result (λ why. Explains self.old.window.now.shape self.old.rank.view self.new.rank.view why) }
+        ensures alone { IsAlone self.old.window.now.shape self.old.rank.view → IfErr result (λ why. is_for_others why ≡ false) }
         ensures follows { Follows self.old.rank.view self.new.rank.view }
     {
         if writing && let Err(word) = self.rank.writer_try(self.window) {
@@ -119,6 +123,7 @@ impl<'a, L: Law> WindowStore<'a, L> {
         ensures done { IfOk result (λ words. ReadsObject at (window_state self.old.window.now self.old.rank self.old.txn) (window_state self.new.window.now self.new.rank self.new.txn) words) }
         ensures refused { IfErr result (λ why. RefusesAccess at (window_state self.old.window.now self.old.rank self.old.txn) (window_state self.new.window.now self.new.rank self.new.txn) (said_by why)) }
         ensures explained { IfErr result (λ why. Explains self.old.window.now.shape self.old.rank.view self.new.rank.view why) }
+        ensures alone { IsAlone self.old.window.now.shape self.old.rank.view → IfErr result (λ why. is_for_others why ≡ false) }
         ensures given { OnErr result (GivesBack self.old.txn.taken.items self.old.rank self.new.rank) }
         ensures free { OnErr result (IsFree self.new.rank.view) }
         ensures follows { Follows self.old.rank.view self.new.rank.view }
@@ -146,6 +151,7 @@ impl<'a, L: Law> WindowStore<'a, L> {
         ensures done { IfOk result (λ _. WritesObject at words (window_state self.old.window.now self.old.rank self.old.txn) (window_state self.new.window.now self.new.rank self.new.txn)) }
         ensures refused { IfErr result (λ why. RefusesAccess at (window_state self.old.window.now self.old.rank self.old.txn) (window_state self.new.window.now self.new.rank self.new.txn) (said_by why)) }
         ensures explained { IfErr result (λ why. Explains self.old.window.now.shape self.old.rank.view self.new.rank.view why) }
+        ensures alone { IsAlone self.old.window.now.shape self.old.rank.view → IfErr result (λ why. is_for_others why ≡ false) }
         ensures given { OnErr result (GivesBack self.old.txn.taken.items self.old.rank self.new.rank) }
         ensures free { OnErr result (IsFree self.new.rank.view) }
         ensures follows { Follows self.old.rank.view self.new.rank.view }
@@ -177,6 +183,8 @@ impl<'a, L: Law> WindowStore<'a, L> {
         ensures done { IfOk result (λ made. MakesObject home (window_state self.old.window.now self.old.rank self.old.txn) (window_state self.new.window.now self.new.rank self.new.txn) made) }
         ensures refused { IfErr result (λ why. RefusesFresh home (window_state self.old.window.now self.old.rank self.old.txn) (window_state self.new.window.now self.new.rank self.new.txn) (said_by why)) }
         ensures explained { IfErr result (λ why. Explains self.old.window.now.shape self.old.rank.view self.new.rank.view why) }
+        ensures alone { IsAlone self.old.window.now.shape self.old.rank.view → IfErr result (λ why. is_for_others why ≡ false) }
+        ensures given_back { OnErr result (GivesTaken self.old.txn.taken.items self.old.rank self.new.rank) }
         ensures free { OnErr result (IsFree self.new.rank.view) }
         ensures follows { Follows self.old.rank.view self.new.rank.view }
     {
@@ -202,6 +210,9 @@ impl<'a, L: Law> WindowStore<'a, L> {
         ensures done { IfOk result (λ number. Commits (C.note note.now) (window_state self.old.window.now self.old.rank self.old.txn) (window_state self.new.window.now self.new.rank self.new.txn) number) }
         ensures refused { IfErr result (λ why. RefusesCommit (window_state self.old.window.now self.old.rank self.old.txn) (window_state self.new.window.now self.new.rank self.new.txn) (said_by why)) }
         ensures explained { IfErr result (λ why. Explains self.old.window.now.shape self.old.rank.view self.new.rank.view why) }
+        ensures alone { IsAlone self.old.window.now.shape self.old.rank.view → IfErr result (λ why. is_for_others why ≡ false) }
+        ensures given { OnOk result (GivesSurplus self.old.rank self.new.rank) }
+        ensures given_back { OnErr result (GivesTaken self.old.txn.taken.items self.old.rank self.new.rank) }
         ensures free { IsFree self.new.rank.view }
         ensures recalls { Recalls self.old.rank.view self.new.rank.view }
     {

@@ -1,9 +1,18 @@
-use crate::steps::Anything;
+ghost use Rattle.std.specs.Prelude.{◌≡◌, ◌+◌, ◌<◌, ◌≤◌, IfOk, length};
+ghost use Rattle.object_store.specs.declared.phase.Phase.TheVariants.{Idle};
+ghost use Rattle.rma_layout.specs.Placement.{IsBlock, IsReserved};
+ghost use Rattle.rma_layout.specs.declared.limits.TheConstants.{MOST_WORDS};
+
+use crate::steps::{Anything, NoNote};
+use block_pool::free_count;
 use fabric::Window;
+use gdi_kinds::NoMemory;
 use lock_words::Want;
+use object_store::Store;
 use object_txn::{TxnRefused, WindowStore};
 use object_words::Words;
 use rma_layout::{DPtr, Geometry};
+use std::alloc::Global;
 use std::test::Fail;
 
 #[test]
@@ -54,6 +63,95 @@ fn a_transaction_writes_and_aborts(rt: HostRuntime) -> Result<(), Fail> {
     };
     assert_eq!(rt; again, made);
     store.abort();
+    Ok(())
+}
+
+/// Reads an object and writes it, makes another beside it with so many words, and commits.
+fn commit_both<S: Store<Anything>>(
+    store: &mut S,
+    alloc: Global,
+    at: DPtr,
+    many: u64,
+) -> Result<(DPtr, u64), S::Refused>
+    requires idle { (S.state store.old).phase ≡ Idle }
+    requires object { IsBlock (S.state store.old).shape at × IsReserved (S.state store.old).shape at.block }
+    requires rank { 0 < (S.state store.old).shape.ranks }
+    requires few { many + 1 ≤ MOST_WORDS }
+    requires allowed { 0 < (S.state store.old).allowance }
+    ensures made { IfOk result (λ done. IsBlock (S.state store.old).shape done.0) }
+    ensures idle { (S.state store.new).phase ≡ Idle }
+    ensures shape { (S.state store.new).shape ≡ (S.state store.old).shape }
+    ensures base { (S.state store.new).base ≡ (S.state store.old).base }
+    ensures allowance { (S.state store.old).allowance ≤ (S.state store.new).allowance + 1 }
+{
+    let one = numbers(alloc, many + 1)?;
+    let two = numbers(alloc, many)?;
+    store.begin(true)?;
+    store.read(at)?;
+    store.write(at, one)?;
+    let made = store.fresh(0)?;
+    store.write(made, two)?;
+    let number = store.commit(&NoNote)?;
+    Ok((made, number))
+}
+
+/// How many words an object has, and the place at which it has them.
+fn look<S: Store<Anything>>(store: &mut S, at: DPtr) -> Result<(usize, u64), S::Refused>
+    requires idle { (S.state store.old).phase ≡ Idle }
+    requires object { IsBlock (S.state store.old).shape at }
+    ensures idle { (S.state store.new).phase ≡ Idle }
+    ensures shape { (S.state store.new).shape ≡ (S.state store.old).shape }
+    ensures base { (S.state store.new).base ≡ (S.state store.old).base }
+    ensures allowance { (S.state store.new).allowance ≡ (S.state store.old).allowance }
+{
+    store.begin(false)?;
+    let words = store.read(at)?;
+    Ok((words.len(), store.finish()))
+}
+
+/// So many numbers, from 0.
+fn numbers(alloc: Global, many: u64) -> Result<Words, NoMemory>
+    ensures { IfOk result (λ words. length words ≡ many) }
+{
+    let mut words = Words::new(alloc);
+    for number in 0..many {
+        words.push(number)?;
+    }
+    Ok(words)
+}
+
+#[test]
+fn a_transaction_commits(rt: HostRuntime) -> Result<(), Fail> {
+    let alloc = rt.alloc();
+    let geometry = Geometry::new(1, 12, 8, 2, 2)?;
+    let (window, mut rank) = Window::<Anything>::new(alloc, geometry)?;
+    assert_eq!(rt; free_count(&window, &mut rank, 0), 7);
+    let mut store = WindowStore::over(alloc, &window, rank);
+    let object = DPtr::new(0, 1);
+    let Ok((made, number)) = commit_both(&mut store, alloc, object, 14) else {
+        panic!(rt; "committed")
+    };
+    assert_eq!(rt; number, 0);
+    assert_eq!(rt; look(&mut store, object), Ok((15, 1)));
+    assert_eq!(rt; look(&mut store, made), Ok((14, 1)));
+    let mut rank = store.into_rank();
+    assert_eq!(rt; free_count(&window, &mut rank, 0), 3);
+    Ok(())
+}
+
+#[test]
+fn a_refused_commit_leaves_nothing(rt: HostRuntime) -> Result<(), Fail> {
+    let alloc = rt.alloc();
+    let geometry = Geometry::new(1, 8, 8, 2, 2)?;
+    let (window, mut rank) = Window::<Anything>::new(alloc, geometry)?;
+    assert_eq!(rt; free_count(&window, &mut rank, 0), 3);
+    let mut store = WindowStore::over(alloc, &window, rank);
+    let object = DPtr::new(0, 1);
+    let refused = commit_both(&mut store, alloc, object, 21);
+    assert!(rt; matches!(refused, Err(TxnRefused::Empty { rank: 0, head: _ })));
+    assert_eq!(rt; look(&mut store, object), Ok((0, 0)));
+    let mut rank = store.into_rank();
+    assert_eq!(rt; free_count(&window, &mut rank, 0), 3);
     Ok(())
 }
 

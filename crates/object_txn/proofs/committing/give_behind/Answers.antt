@@ -1,4 +1,5 @@
 use Rattle.std.proofs.Common.{◌≡◌, ◌+◌, List, [], ◌∷◌, drop, sym, ap, ◌∙◌, subst, arith}
+use Rattle.std.proofs.lemmas.List.{drop_all}
 use Rattle.rma_layout.specs.Placement.{Place}
 use Rattle.window_rule.specs.Partition.{times}
 use Rattle.window_rule.specs.View.{View}
@@ -45,5 +46,19 @@ loop-index-preserved g c =
       view = blocks-then c.args.rank.now.view was.view now.view old.view (given_view block was now c.give.ensures.given);
       stay = λ other out for_use. c.give.ensures.stay other (one_stays block other (omega (arith, fewer other out))) (old.stay other out for_use);
       among = λ other out. omega (arith, fewer other out);
+      given = (
+        block ∷ old.given.0,
+        λ other. omega (arith, old.given.1 other, ap (times other) left),
+        (was, old.given.2, c.give.ensures.given),
+      );
       follows = follows_trans c.args.rank.now.view was.view now.view old.follows c.give.ensures.follows;
+    }
+
+pub returns-clause-given : goal.returns-clause-given
+returns-clause-given g c =
+    let old = c.loop-index.invariant in
+    let gone : drop c.loop-index.index c.args.blocks.now ≡ [] = drop_all c.loop-index.index c.args.blocks.now (omega (arith, c.loop-index-test.false, c.len-index-end.ensures)) in record {
+      order = old.given.0;
+      are = λ other. omega (arith, old.given.1 other, ap (times other) gone);
+      given = old.given.2;
     }

@@ -1,8 +1,9 @@
-use Rattle.std.proofs.Common.{◌≡◌, drop}
+use Rattle.std.proofs.Common.{◌≡◌, ◌+◌, List, drop}
 use Rattle.rma_layout.specs.Placement.{Place}
 use Rattle.window_rule.specs.Partition.{times}
 use Rattle.window_rule.specs.Trails.{Follows}
 use Rattle.block_pool.specs.Gives.{IsForUse, OnlyBlocks}
+use Rattle.object_txn.specs.Endings.{GivesEach}
 use Rattle.object_txn.specs.Tied.{HasTaken}
 use Rattle.object_txn.proofs.committing.give_behind.Given as goal
 
@@ -13,5 +14,7 @@ invariant-loop-index g l = record {
   view : OnlyBlocks l.initial.rank.view l.rank.view;
   stay : (other : Place) → times other (drop l.used l.blocks) ≡ 0 → IsForUse l.window.shape l.initial.rank other → IsForUse l.window.shape l.rank other;
   among : (other : Place) → times other (drop l.used l.blocks) ≡ 0 → times other (drop l.index l.blocks) ≡ 0;
+  given : (done : List Place) × ((other : Place) → times other done + times other (drop l.index l.blocks) ≡ times other (drop l.used l.blocks))
+      × GivesEach done l.initial.rank l.rank;
   follows : Follows l.initial.rank.view l.rank.view;
 }

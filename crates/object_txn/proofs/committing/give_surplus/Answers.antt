@@ -1,11 +1,14 @@
-use Rattle.std.proofs.Common.{◌+◌, List, drop, ap, ◌∙◌, subst}
+use Rattle.std.proofs.Common.{[], ◌≡◌, ◌+◌, ◌++◌, arith, List, drop, ap, ◌∙◌, subst}
+use Rattle.std.proofs.lemmas.List.{drop_all}
 use Rattle.window_rule.specs.View.{View}
 use Rattle.window_rule.specs.Locks.{hold_of}
 use Rattle.window_rule.proofs.Trails.{follows_trans}
+use Rattle.window_rule.specs.Partition.{times}
+use Rattle.window_rule.proofs.JoinSteps.{times-append}
 use Rattle.object_txn.specs.declared.plan.Plan.{Plan}
 use Rattle.object_txn.specs.Plans.{surplus_in}
 use Rattle.object_txn.specs.Tied.{HasTaken}
-use Rattle.object_txn.proofs.EndingFacts.{blocks-then}
+use Rattle.object_txn.proofs.EndingFacts.{blocks-then, gives_then}
 use Rattle.object_txn.proofs.PlanFacts.{plans_left}
 use Rattle.object_txn.proofs.SurplusFacts.{first_taken, rest_taken}
 use Rattle.object_txn.proofs.committing.give_surplus.Goals as goal
@@ -37,5 +40,26 @@ loop-plan-preserved g c =
       surplus = rest_taken shape (drop plan.used plan.blocks) (surplus_in more) was now c.give_behind.ensures.stay
           (subst (λ (l : List Plan). HasTaken shape was.view.private was.spares (surplus_in l)) left old.surplus);
       view = blocks-then c.args.rank.now.view was.view now.view old.view c.give_behind.ensures.view;
+      given = let all = c.give_behind.ensures.given in (
+        all.order ++ old.given.0,
+        λ other. omega (
+          arith,
+          old.given.1 other,
+          all.are other,
+          times-append other all.order old.given.0,
+          ap (λ (l : List Plan). times other (surplus_in l)) left,
+          times-append other (drop plan.used plan.blocks) (surplus_in more),
+        ),
+        gives_then old.given.0 all.order c.args.rank.now was now old.given.2 all.given,
+      );
       follows = follows_trans c.args.rank.now.view was.view now.view old.follows c.give_behind.ensures.follows;
+    }
+
+pub returns-clause-given : goal.returns-clause-given
+returns-clause-given g c =
+    let old = c.loop-plan.invariant in
+    let gone : drop c.loop-plan.plan-index c.args.plans.now ≡ [] = drop_all c.loop-plan.plan-index c.args.plans.now (omega (arith, c.loop-plan-test.false, c.loop-plan.auto.plan-index-end)) in record {
+      order = old.given.0;
+      are = λ other. omega (arith, old.given.1 other, ap (λ (l : List Plan). times other (surplus_in l)) gone);
+      given = old.given.2;
     }

@@ -1,6 +1,9 @@
-use Rattle.std.proofs.Common.{◌≡◌, drop}
+use Rattle.std.proofs.Common.{◌≡◌, ◌+◌, List, drop}
+use Rattle.rma_layout.specs.Placement.{Place}
+use Rattle.window_rule.specs.Partition.{times}
 use Rattle.window_rule.specs.Trails.{Follows}
 use Rattle.block_pool.specs.Gives.{OnlyBlocks}
+use Rattle.object_txn.specs.Endings.{GivesEach}
 use Rattle.object_txn.specs.Plans.{surplus_in}
 use Rattle.object_txn.specs.Tied.{HasTaken}
 use Rattle.object_txn.proofs.committing.give_surplus.Given as goal
@@ -10,5 +13,7 @@ invariant-loop-plan g l = record {
   window : l.rank.window ≡ l.initial.rank.window;
   surplus : HasTaken l.window.shape l.rank.view.private l.rank.spares (surplus_in (drop l.plan-index l.plans));
   view : OnlyBlocks l.initial.rank.view l.rank.view;
+  given : (done : List Place) × ((other : Place) → times other done + times other (surplus_in (drop l.plan-index l.plans)) ≡ times other (surplus_in l.plans))
+      × GivesEach done l.initial.rank l.rank;
   follows : Follows l.initial.rank.view l.rank.view;
 }

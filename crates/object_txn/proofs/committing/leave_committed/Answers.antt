@@ -3,9 +3,11 @@ use Rattle.window_rule.specs.View.{View, Locks, Outside, OwnBlock}
 use Rattle.window_rule.specs.Locks.{hold_of}
 use Rattle.window_rule.specs.Spares.{SpareEnds}
 use Rattle.block_pool.specs.Gives.{OnlyBlocks}
+use Rattle.fabric.specs.Window.{RankModel}
+use Rattle.object_txn.specs.Endings.{GivesEach}
 use Rattle.object_txn.specs.Plans.{surplus_in}
 use Rattle.object_txn.specs.Tied.{HasTaken}
-use Rattle.object_txn.proofs.EndingFacts.{free_by}
+use Rattle.object_txn.proofs.EndingFacts.{free_by, rank_by_parts}
 use Rattle.object_txn.proofs.TiedFacts.{tied_none}
 use Rattle.object_txn.proofs.committing.leave_committed.Goals as goal
 
@@ -38,3 +40,15 @@ returns-clause-tied g c =
 
 pub returns-clause-free : goal.returns-clause-free
 returns-clause-free g c = free_by c.args.window.now c.truths.new.self c.end.new.self (returns-clause-tied g c) c.end.ensures
+
+pub returns-clause-given : goal.returns-clause-given
+returns-clause-given g c = record {
+  left = c.leave_gate.new.rank;
+  private = ap (λ (v : View g.row.L-Note.Denot). v.private) c.leave_gate.ensures.view ∙ ap (λ (v : View g.row.L-Note.Denot). v.private) c.leave_all.ensures.left.only;
+  all = record {
+    order = c.give_surplus.ensures.given.order;
+    are = c.give_surplus.ensures.given.are;
+    given = subst (λ (r : RankModel g.row.L-Note.Denot). GivesEach c.give_surplus.ensures.given.order c.leave_gate.new.rank r) (sym (rank_by_parts c.truths.new.self c.give_surplus.new.rank
+        c.truths.ensures.window c.truths.ensures.view c.truths.ensures.spares)) c.give_surplus.ensures.given.given;
+  };
+}

@@ -1,4 +1,4 @@
-use Rattle.std.proofs.Common.{◌≡◌, ◌≤◌, ◌<◌, ◌∙◌, List, ℕ, refl, sym, ap, subst}
+use Rattle.std.proofs.Common.{arith, ◌≡◌, ◌≤◌, ◌<◌, ◌∙◌, List, ℕ, refl, sym, ap, subst}
 use Rattle.window_rule.specs.View.{View, Locks, OwnBlock}
 use Rattle.window_rule.specs.Commit.{Commits, flagged, entry_by}
 use Rattle.window_rule.specs.Dirty.{dirt_of}
@@ -105,3 +105,15 @@ returns-clause-surplus g c =
     (c.rewrite_all.ensures.no_spare block
     (subst (λ (o : List OwnBlock). IsNoSpare shape o c.open_all.new.rank.spares block) (sym opened)
     (subst (λ (e : SpareEnds). IsNoSpare shape c.args.rank.now.view.private e block) (sym c.open_all.ensures.spares) none)))))
+
+pub returns-clause-exchanged : goal.returns-clause-exchanged
+returns-clause-exchanged g c = λ block.
+    let own = λ (v : View g.row.L-Note.Denot). times block (places_of v.private) in
+    omega (
+      arith,
+      c.rewrite_all.ensures.exchanged block,
+      ap own c.truths.ensures.view,
+      ap own c.close_all.ensures.only,
+      ap own c.place_entry-number.ensures.placed.view,
+      ap own c.open_all.ensures.only,
+    )

@@ -1,7 +1,8 @@
 use Rattle.std.proofs.Common.{◌≢◌, refl, sym, ap, ◌∙◌, subst, arith, [], List, Some}
 use Rattle.rma_layout.specs.Placement.{Place}
 use Rattle.object_words.specs.Contents.{Contents, with_words}
-use Rattle.window_rule.specs.View.{Known, Locks, View}
+use Rattle.window_rule.specs.View.{Known, Locks, OwnBlock, View}
+use Rattle.window_rule.specs.Partition.{places_of, times}
 use Rattle.window_rule.specs.ContentsHold.{Lasts}
 use Rattle.window_rule.specs.Locks.{hold_of}
 use Rattle.object_store.specs.declared.phase.Phase.TheVariants.{Idle}
@@ -87,3 +88,47 @@ returns-clause-chains g c =
     (noted_here at c.new.result was.chains c.put.new.self c.in_ok-put.ensures.ok) noted in
     chains_written c.meet.new.rank.view (record c.args.txn.now { held = c.mark.new.held; taken = c.take_one.new.taken; chains = c.put.new.self; reads = c.put-2.new.self }) c.put-3.new.self at c.new-3.result c.in_ok-put-3.ensures.ok
     (noted_here at c.new.result was.chains c.put.new.self c.in_ok-put.ensures.ok) read
+
+pub returns-in-Err-clause-owns : goal.returns-in-Err-clause-owns
+returns-in-Err-clause-owns g c = λ block.
+    omega (
+      arith,
+      c.take_one.ensures.owns block,
+      ap (λ (v : View g.row.L-Note.Denot). times block (places_of v.private)) c.mark.ensures.locked.view,
+    )
+
+pub returns-in_err-put-clause-owns : goal.returns-in_err-put-clause-owns
+returns-in_err-put-clause-owns g c = λ block.
+    omega (
+      arith,
+      c.take_one.ensures.owns block,
+      ap (λ (v : View g.row.L-Note.Denot). times block (places_of v.private)) c.mark.ensures.locked.view,
+      ap (λ (o : List OwnBlock). times block (places_of o)) c.meet.ensures.private,
+    )
+
+pub returns-in_err-put-2-clause-owns : goal.returns-in_err-put-2-clause-owns
+returns-in_err-put-2-clause-owns g c = λ block.
+    omega (
+      arith,
+      c.take_one.ensures.owns block,
+      ap (λ (v : View g.row.L-Note.Denot). times block (places_of v.private)) c.mark.ensures.locked.view,
+      ap (λ (o : List OwnBlock). times block (places_of o)) c.meet.ensures.private,
+    )
+
+pub returns-in_err-put-3-clause-owns : goal.returns-in_err-put-3-clause-owns
+returns-in_err-put-3-clause-owns g c = λ block.
+    omega (
+      arith,
+      c.take_one.ensures.owns block,
+      ap (λ (v : View g.row.L-Note.Denot). times block (places_of v.private)) c.mark.ensures.locked.view,
+      ap (λ (o : List OwnBlock). times block (places_of o)) c.meet.ensures.private,
+    )
+
+pub returns-clause-owns : goal.returns-clause-owns
+returns-clause-owns g c = λ block.
+    omega (
+      arith,
+      c.take_one.ensures.owns block,
+      ap (λ (v : View g.row.L-Note.Denot). times block (places_of v.private)) c.mark.ensures.locked.view,
+      ap (λ (o : List OwnBlock). times block (places_of o)) c.meet.ensures.private,
+    )

@@ -1,9 +1,10 @@
 use Rattle.std.proofs.Common.{◌<◌, ◌∷◌, ◌++◌, [], ap, ◌∙◌, subst, arith}
 use Rattle.rma_layout.specs.Shape.{Shape}
+use Rattle.window_rule.specs.View.{View}
 use Rattle.window_rule.specs.Pool.{MayBeFree}
 use Rattle.window_rule.specs.Spares.{HasSpares, IsNoSpare}
 use Rattle.block_pool.specs.Takes.{Refuses}
-use Rattle.object_txn.proofs.MakingFacts.{explains_busy, explains_empty, explains_worn, never_busy, taken_is_new, taken_more}
+use Rattle.object_txn.proofs.MakingFacts.{explains_busy, explains_empty, explains_worn, never_busy, owns_same, owns_taken, taken_is_new, taken_more}
 use Rattle.object_txn.proofs.making.take_one.Goals as goal
 
 pub returns-in-Ok-push-clause-taken : goal.returns-in-Ok-push-clause-taken
@@ -50,3 +51,23 @@ pub returns-in-Err-Worn-clause-refused : goal.returns-in-Err-Worn-clause-refused
 returns-in-Err-Worn-clause-refused g c =
     explains_worn c.args.window.now.shape c.args.home c.args.rank.now.view c.take.new.rank.view c.in-Err-Worn.head
     (subst (Refuses c.args.home 64 c.args.rank.now.view c.take.new.rank.view) c.in-Err-Worn.field-0-is c.in-Err-Worn.ensures.taken.why)
+
+pub returns-in-Ok-push-clause-owns : goal.returns-in-Ok-push-clause-owns
+returns-in-Ok-push-clause-owns g c =
+    owns_taken c.args.window.now.shape c.args.home c.args.rank.now c.take.new.rank c.in-Ok.block c.args.taken.now.items c.push.new.self.items
+    (c.in-Ok-push.ensures.items ∙ ap (λ l. l ++ c.in-Ok.block ∷ []) c.in_ok-has_room.ensures.items) c.in-Ok.ensures.taken.from
+
+pub returns-in-Err-Empty-clause-owns : goal.returns-in-Err-Empty-clause-owns
+returns-in-Err-Empty-clause-owns g c =
+    owns_same c.args.rank.now.view c.take.new.rank.view c.args.taken.now.items c.has_room.new.taken.items
+    (ap (λ (v : View g.row.L-Note.Denot). v.private) c.in-Err-Empty.ensures.taken.unmoved) c.has_room.ensures.items
+
+pub returns-in-Err-PoolBusy-clause-owns : goal.returns-in-Err-PoolBusy-clause-owns
+returns-in-Err-PoolBusy-clause-owns g c =
+    owns_same c.args.rank.now.view c.take.new.rank.view c.args.taken.now.items c.has_room.new.taken.items
+    (ap (λ (v : View g.row.L-Note.Denot). v.private) c.in-Err-PoolBusy.ensures.taken.unmoved) c.has_room.ensures.items
+
+pub returns-in-Err-Worn-clause-owns : goal.returns-in-Err-Worn-clause-owns
+returns-in-Err-Worn-clause-owns g c =
+    owns_same c.args.rank.now.view c.take.new.rank.view c.args.taken.now.items c.has_room.new.taken.items
+    (ap (λ (v : View g.row.L-Note.Denot). v.private) c.in-Err-Worn.ensures.taken.unmoved) c.has_room.ensures.items

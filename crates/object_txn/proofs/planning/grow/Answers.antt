@@ -10,6 +10,7 @@ loop-rank-init g c = record {
   window = refl;
   taken = c.requires.taken;
   only = refl;
+  owns = λ block. omega arith;
   grown = record { more = []; taken = sym (append-nil c.args.taken.now.items); blocks = sym (append-nil c.args.blocks.now); on_home = tt };
   follows = goes_on-refl (trail_of c.args.rank.now.view);
 }
@@ -20,6 +21,7 @@ loop-rank-preserved g c =
       window = c.take_into.ensures.window ∙ old.window;
       taken = c.take_into.ensures.taken;
       only = taken-then c.args.rank.now.view c.loop-rank.rank.view c.take_into.new.rank.view old.only c.take_into.ensures.only;
+      owns = λ block. omega (arith, old.owns block, c.take_into.ensures.owns block);
       grown = grows-then c.args.home c.args.taken.now.items c.loop-rank.taken.items c.take_into.new.taken.items c.args.blocks.now c.loop-rank.blocks c.take_into.new.blocks
           old.grown c.in_default.ensures.grown;
       follows = follows_trans c.args.rank.now.view c.loop-rank.rank.view c.take_into.new.rank.view old.follows c.take_into.ensures.follows;
@@ -41,3 +43,9 @@ returns-in-Err-clause-refused g c =
 pub returns-clause-more : goal.returns-clause-more
 returns-clause-more g c = λ block.
     grows_more c.args.home c.args.taken.now.items c.loop-rank.taken.items c.args.blocks.now c.loop-rank.blocks c.loop-rank.invariant.grown block
+
+pub returns-clause-owns : goal.returns-clause-owns
+returns-clause-owns g c = c.loop-rank.invariant.owns
+
+pub returns-in-Err-clause-owns : goal.returns-in-Err-clause-owns
+returns-in-Err-clause-owns g c = λ block. omega (arith, c.loop-rank.invariant.owns block, c.take_into.ensures.owns block)

@@ -1,6 +1,7 @@
 use Rattle.std.proofs.Common.{◌≡◌, ◌-◌, length}
 use Rattle.window_rule.specs.Trails.{Follows}
 use Rattle.block_pool.specs.Moves.{OnlyTaken}
+use Rattle.object_txn.specs.Moves.{OwnsNoted}
 use Rattle.object_txn.specs.Planning.{Grows}
 use Rattle.object_txn.specs.Tied.{HasTaken}
 use Rattle.object_txn.proofs.planning.grow.Given as goal
@@ -10,6 +11,7 @@ invariant-loop-rank g l = record {
   window : l.rank.window ≡ l.initial.rank.window;
   taken : HasTaken l.window.shape l.rank.view.private l.rank.spares l.taken.items;
   only : OnlyTaken l.initial.rank.view l.rank.view;
+  owns : OwnsNoted l.initial.rank.view l.rank.view l.initial.taken.items l.taken.items;
   grown : Grows l.home l.initial.taken.items l.taken.items l.initial.blocks l.blocks;
   follows : Follows l.initial.rank.view l.rank.view;
 }

@@ -13,6 +13,7 @@ loop-at-init g c = record {
   window = refl;
   taken = c.requires.taken;
   only = refl;
+  owns = λ block. omega arith;
   known = c.requires.known;
   plans = subst (λ (l : List Plan). ArePlansBut c.args.window.now.shape c.args.writes.now c.args.rank.now.view.known c.args.taken.now.items c.args.taken.now.items c.args.chains.now l)
       (sym c.new-plans.ensures.items)
@@ -34,6 +35,7 @@ loop-at-preserved g c =
       window = c.plan_next.ensures.window ∙ old.window;
       taken = c.plan_next.ensures.taken;
       only = taken-then c.args.rank.now.view c.loop-at.rank.view c.plan_next.new.rank.view old.only c.plan_next.ensures.only;
+      owns = λ block. omega (arith, old.owns block, c.plan_next.ensures.owns block);
       known = λ object chain e. old.known object chain (rest_known c.loop-at.chains more _ _ c.in-Some.ensures.some c.in-Some.ensures.once object chain e);
       plans = plans_next c.args.window.now.shape c.args.writes.now c.args.rank.now.view.known c.args.taken.now.items c.requires.truths.lies c.requires.own
           _ _ more c.loop-at.taken.items c.plan_next.new.taken.items c.loop-at.plans.items c.plan_next.new.plans.items c.in-Some.ensures.once known
@@ -69,3 +71,10 @@ pub returns-clause-plans : goal.returns-clause-plans
 returns-clause-plans g c =
     plans_done c.args.window.now.shape c.args.writes.now c.args.rank.now.view.known c.args.taken.now.items c.requires.truths.lies c.requires.own
     c.loop-at.chains c.loop-at.taken.items c.loop-at.plans.items c.in_default.ensures.none.0 c.loop-at.invariant.plans
+
+pub returns-clause-gains : goal.returns-clause-gains
+returns-clause-gains g c = λ block.
+    omega (arith, c.loop-at.invariant.owns block, c.loop-at.invariant.plans.since block)
+
+pub returns-in-Err-clause-owns : goal.returns-in-Err-clause-owns
+returns-in-Err-clause-owns g c = λ block. omega (arith, c.loop-at.invariant.owns block, c.plan_next.ensures.owns block)

@@ -4,6 +4,7 @@ use Rattle.window_rule.specs.Known.{known_of}
 use Rattle.window_rule.specs.Trails.{Follows}
 use Rattle.block_pool.specs.Moves.{OnlyTaken}
 use Rattle.object_moves.specs.Noted.{blocks_of}
+use Rattle.object_txn.specs.Moves.{OwnsNoted}
 use Rattle.object_txn.specs.Planning.{ArePlansBut}
 use Rattle.object_txn.specs.Tied.{HasTaken, chain_known}
 use Rattle.object_txn.proofs.planning.plan_all.Given as goal
@@ -13,6 +14,7 @@ invariant-loop-at g l = record {
   window : l.rank.window ≡ l.initial.rank.window;
   taken : HasTaken l.window.shape l.rank.view.private l.rank.spares l.taken.items;
   only : OnlyTaken l.initial.rank.view l.rank.view;
+  owns : OwnsNoted l.initial.rank.view l.rank.view l.initial.taken.items l.taken.items;
   known : (object : Place) (blocks : List Place) → blocks_of l.chains object ≡ Some blocks → chain_known (known_of l.initial.rank.view.known object) ≡ Some blocks;
   plans : ArePlansBut l.window.shape l.writes l.initial.rank.view.known l.initial.taken.items l.taken.items l.chains l.plans.items;
   follows : Follows l.initial.rank.view l.rank.view;

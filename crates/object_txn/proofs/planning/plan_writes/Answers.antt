@@ -1,6 +1,7 @@
-use Rattle.std.proofs.Common.{◌∙◌, List, refl, sym, ap, subst}
+use Rattle.std.proofs.Common.{arith, ◌∙◌, List, refl, sym, ap, subst}
 use Rattle.rma_layout.specs.Placement.{Place}
 use Rattle.window_rule.specs.View.{View, Known}
+use Rattle.window_rule.specs.Partition.{places_of, times}
 use Rattle.object_txn.specs.declared.txn.Txn.{Txn}
 use Rattle.object_txn.specs.Planning.{AreAllPlans}
 use Rattle.object_txn.proofs.PlanningFacts.{has_own_block, noted_by}
@@ -38,3 +39,29 @@ returns-clause-plans g c =
     subst (λ (known : List (Place × Known)). AreAllPlans c.args.window.now.shape c.args.txn.now.writes known c.plan_all.new.taken.items c.in_ok-plans.plans.items)
     (sym (ap (λ (v : View g.row.L-Note.Denot). v.known) c.truths-2.ensures.view ∙ ap (λ (v : View g.row.L-Note.Denot). v.known) c.plan_all.ensures.only))
     c.in_ok-plans.ensures.plans
+
+pub returns-clause-gains : goal.returns-clause-gains
+returns-clause-gains g c = λ block.
+    omega (
+      arith,
+      c.in_ok-plans.ensures.gains block,
+      ap (λ (v : View g.row.L-Note.Denot). times block (places_of v.private)) c.truths.ensures.view,
+      ap (λ (v : View g.row.L-Note.Denot). times block (places_of v.private)) c.truths-2.ensures.view,
+    )
+
+pub returns-in_err-plans-clause-owns : goal.returns-in_err-plans-clause-owns
+returns-in_err-plans-clause-owns g c = λ block.
+    omega (
+      arith,
+      c.plan_all.ensures.owns block,
+      ap (λ (v : View g.row.L-Note.Denot). times block (places_of v.private)) c.truths.ensures.view,
+    )
+
+pub returns-clause-owns : goal.returns-clause-owns
+returns-clause-owns g c = λ block.
+    omega (
+      arith,
+      c.plan_all.ensures.owns block,
+      ap (λ (v : View g.row.L-Note.Denot). times block (places_of v.private)) c.truths.ensures.view,
+      ap (λ (v : View g.row.L-Note.Denot). times block (places_of v.private)) c.truths-2.ensures.view,
+    )

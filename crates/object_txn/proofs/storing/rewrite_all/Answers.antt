@@ -1,11 +1,12 @@
-use Rattle.std.proofs.Common.{◌+◌, ◌≤◌, List, ℕ, ◌∷◌, drop, refl, sym, ◌∙◌, subst}
+use Rattle.std.proofs.Common.{[], ap, arith, ◌≡◌, ◌+◌, ◌≤◌, List, ℕ, ◌∷◌, drop, refl, sym, ◌∙◌, subst}
+use Rattle.std.proofs.lemmas.List.{drop_all}
 use Rattle.object_words.specs.Contents.{content_of}
 use Rattle.window_rule.specs.Partition.{places_of, times}
 use Rattle.window_rule.proofs.Trails.{follows_trans}
 use Rattle.object_moves.specs.Rewrites.{MayRewrite, Rewrites, chain_of_first}
 use Rattle.object_txn.specs.declared.plan.Plan.{Plan}
 use Rattle.object_txn.specs.Plans.{ArePlanned, AreWritten, HasRoom, surplus_in, taken_for}
-use Rattle.object_txn.proofs.PlanFacts.{only_stored, planned_less, plans_left, stands_there, surplus_less, written_more}
+use Rattle.object_txn.proofs.PlanFacts.{exchanged_less, only_stored, planned_less, plans_left, stands_there, surplus_less, written_more}
 use Rattle.object_txn.proofs.RoomFacts.{room_less}
 use Rattle.object_txn.proofs.storing.rewrite_all.Goals as goal
 
@@ -53,6 +54,20 @@ loop-plan-preserved g c =
       surplus = surplus_less shape reads writes was now plan ready told c.rewrite.ensures.no_spare c.args.plans.now more
           (λ block. subst (λ (l : List Plan). times block (surplus_in c.args.plans.now) + taken_for block l ≤ times block (places_of was.view.private) + times block (surplus_in l)) left
           (old.surplus block));
+      exchanged = exchanged_less shape reads writes was now plan ready told c.rewrite.ensures.no_spare c.args.plans.now more c.args.rank.now.view.private
+          (λ block. subst (λ (l : List Plan). times block (places_of was.view.private) + taken_for block c.args.plans.now + times block (surplus_in l)
+          ≡ times block (places_of c.args.rank.now.view.private) + times block (surplus_in c.args.plans.now) + taken_for block l) left
+          (old.exchanged block));
       no_spare = λ block none. c.rewrite.ensures.no_spare block (old.no_spare block none);
       follows = follows_trans c.args.rank.now.view was.view now.view old.follows c.rewrite.ensures.follows;
     }
+
+pub returns-clause-exchanged : goal.returns-clause-exchanged
+returns-clause-exchanged g c = λ block.
+    let none : drop c.loop-plan.plan-index c.args.plans.now ≡ [] = drop_all c.loop-plan.plan-index c.args.plans.now (omega (arith, c.loop-plan-test.false, c.loop-plan.auto.plan-index-end)) in
+    omega (
+      arith,
+      c.loop-plan.invariant.exchanged block,
+      ap (taken_for block) none,
+      ap (λ (l : List Plan). times block (surplus_in l)) none,
+    )

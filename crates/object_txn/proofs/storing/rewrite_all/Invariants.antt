@@ -16,6 +16,8 @@ invariant-loop-plan g l = record {
   room : HasRoom l.window.shape (drop l.plan-index l.plans) l.rank.view;
   surplus : (block : Place) → times block (surplus_in l.plans) + taken_for block (drop l.plan-index l.plans)
       ≤ times block (places_of l.rank.view.private) + times block (surplus_in (drop l.plan-index l.plans));
+  exchanged : (block : Place) → times block (places_of l.rank.view.private) + taken_for block l.plans + times block (surplus_in (drop l.plan-index l.plans))
+      ≡ times block (places_of l.initial.rank.view.private) + times block (surplus_in l.plans) + taken_for block (drop l.plan-index l.plans);
   no_spare : (block : Place) → IsNoSpare l.window.shape l.initial.rank.view.private l.initial.rank.spares block
       → IsNoSpare l.window.shape l.rank.view.private l.rank.spares block;
   follows : Follows l.initial.rank.view l.rank.view;

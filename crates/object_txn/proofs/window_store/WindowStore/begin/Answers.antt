@@ -4,7 +4,9 @@ use Rattle.window_rule.specs.Trails.{Follows}
 use Rattle.object_txn.specs.Tied.{IsTied}
 use Rattle.object_txn.proofs.StoreFacts.{continues}
 use Rattle.lock_words.specs.declared.want.Want.TheVariants.{Writer}
+use Rattle.object_txn.specs.declared.refused.TxnRefused.TheVariants.{GateBusy}
 use Rattle.object_txn.specs.declared.txn.Txn.{Txn}
+use Rattle.object_txn.proofs.Explaining.{never_for_others}
 use Rattle.object_txn.proofs.LockingFacts.{was_refused}
 use Rattle.object_txn.proofs.window_store.WindowStore.begin.Goals as goal
 
@@ -31,3 +33,7 @@ returns-2-clause-keeps g c =
     let spares : c.truths-2.new.self.spares ≡ self.rank.spares = search rules in
     continues g.L.Law.fits self.window.now self.rank c.truths-2.new.self self.txn txn follows c.truths-2.ensures.truths tied
     (λ _. spares)
+
+pub returns-clause-alone : goal.returns-clause-alone
+returns-clause-alone g c = λ alone.
+    never_for_others c.args.self.now.window.now.shape c.args.self.now.rank.view c.truths.new.self.view (GateBusy c.in-Err.word) (returns-clause-explained g c) alone

@@ -1,8 +1,12 @@
-use Rattle.std.proofs.Common.{sym, ap, subst}
+use Rattle.std.proofs.Common.{arith, List, ◌∙◌, sym, ap, subst}
+use Rattle.window_rule.specs.View.{OwnBlock}
+use Rattle.window_rule.specs.Partition.{places_of, times}
 use Rattle.window_rule.proofs.Trails.{follows_trans}
 use Rattle.object_txn.specs.declared.txn.Txn.{Txn}
+use Rattle.object_txn.specs.declared.plan.Plan.{Plan}
+use Rattle.object_txn.specs.Plans.{surplus_in, taken_for}
 use Rattle.object_txn.proofs.EntryFacts.{commits, entry_same, recalls_all}
-use Rattle.object_txn.proofs.Explaining.{explains_later, recalls_by}
+use Rattle.object_txn.proofs.Explaining.{explains_later, never_for_others, recalls_by}
 use Rattle.object_txn.proofs.StoreFacts.{continues, recalled, refuses_commit}
 use Rattle.object_txn.proofs.window_store.WindowStore.commit.Goals as goal
 
@@ -68,3 +72,37 @@ returns-in-Ok-clause-keeps g c =
     (ap (λ (t : Txn). t.reads) same) (ap (λ (t : Txn). t.writes) same))
     c.plan_writes.ensures.follows c.write_planned-number.ensures.entry c.leave_committed.ensures.follows c.leave_committed.ensures.seen)
     c.leave_committed.ensures.truths c.leave_committed.ensures.tied (λ quiet. absurd (quiet c.requires.begun))
+
+pub returns-in-Err-clause-alone : goal.returns-in-Err-clause-alone
+returns-in-Err-clause-alone g c = λ alone.
+    never_for_others c.args.self.now.window.now.shape c.args.self.now.rank.view c.end_all.new.rank.view c.in-Err.why (returns-in-Err-clause-explained g c) alone
+
+pub returns-in-Ok-clause-given : goal.returns-in-Ok-clause-given
+returns-in-Ok-clause-given g c =
+    let back = c.leave_committed.ensures.given in record {
+      left = back.left;
+      surplus = back.all.order;
+      few = λ block. omega (
+        arith,
+        c.in-Ok.ensures.gains block,
+        c.write_planned-number.ensures.exchanged block,
+        ap (λ (own : List OwnBlock). times block (places_of own)) back.private,
+        back.all.are block,
+        ap (taken_for block) c.deref.ensures.value,
+        ap (λ (l : List Plan). times block (surplus_in l)) (c.deref.ensures.value ∙ sym c.deref-in-Ok.ensures.value),
+      );
+      given = back.all.given;
+    }
+
+pub returns-in-Err-clause-given_back : goal.returns-in-Err-clause-given_back
+returns-in-Err-clause-given_back g c =
+    let back = c.end_all.ensures.given in record {
+      left = back.left;
+      all = c.plan_writes.new.txn.taken.items;
+      few = λ block. omega (
+        arith,
+        c.plan_writes.ensures.owns block,
+        ap (λ (own : List OwnBlock). times block (places_of own)) back.private,
+      );
+      given = back.given;
+    }

@@ -1,11 +1,12 @@
-use Rattle.std.proofs.Common.{rules, sym, subst}
-use Rattle.window_rule.specs.View.{View}
+use Rattle.std.proofs.Common.{arith, List, ap, rules, sym, subst}
+use Rattle.window_rule.specs.View.{View, OwnBlock}
+use Rattle.window_rule.specs.Partition.{places_of, times}
 use Rattle.window_rule.specs.Trails.{Follows}
 use Rattle.window_rule.proofs.Trails.{follows_trans}
 use Rattle.object_txn.specs.Tied.{IsTied}
 use Rattle.object_txn.specs.Moves.{Makes}
 use Rattle.object_txn.proofs.StoreFacts.{continues, makes_object}
-use Rattle.object_txn.proofs.Explaining.{explains_later}
+use Rattle.object_txn.proofs.Explaining.{explains_later, never_for_others}
 use Rattle.object_txn.proofs.window_store.WindowStore.fresh.Goals as goal
 
 pub returns-in-Ok-clause-keeps : goal.returns-in-Ok-clause-keeps
@@ -36,3 +37,20 @@ returns-in-Err-clause-keeps g c =
     continues g.L.Law.fits self.window.now self.rank c.end_all.new.rank self.txn c.end_all.new.txn
     (follows_trans self.rank.view c.make.new.rank.view c.end_all.new.rank.view c.make.ensures.follows c.end_all.ensures.follows)
     c.end_all.ensures.truths c.end_all.ensures.tied (λ quiet. absurd (quiet c.requires.begun))
+
+pub returns-in-Err-clause-alone : goal.returns-in-Err-clause-alone
+returns-in-Err-clause-alone g c = λ alone.
+    never_for_others c.args.self.now.window.now.shape c.args.self.now.rank.view c.end_all.new.rank.view c.in-Err.why (returns-in-Err-clause-explained g c) alone
+
+pub returns-in-Err-clause-given_back : goal.returns-in-Err-clause-given_back
+returns-in-Err-clause-given_back g c =
+    let back = c.end_all.ensures.given in record {
+      left = back.left;
+      all = c.make.new.txn.taken.items;
+      few = λ block. omega (
+        arith,
+        c.make.ensures.owns block,
+        ap (λ (own : List OwnBlock). times block (places_of own)) back.private,
+      );
+      given = back.given;
+    }

@@ -5,7 +5,7 @@ use Rattle.rma_layout.specs.Placement.{Place}
 use Rattle.object_txn.specs.Endings.{GivesEach}
 use Rattle.object_txn.specs.Tied.{IsTied}
 use Rattle.object_txn.proofs.StoreFacts.{continues}
-use Rattle.object_txn.proofs.Explaining.{explains_later}
+use Rattle.object_txn.proofs.Explaining.{explains_later, never_for_others}
 use Rattle.object_txn.proofs.window_store.WindowStore.read.Goals as goal
 
 pub returns-in-Ok-clause-keeps : goal.returns-in-Ok-clause-keeps
@@ -37,3 +37,7 @@ returns-in-Err-clause-keeps g c =
     continues g.L.Law.fits self.window.now self.rank c.end_all.new.rank self.txn c.end_all.new.txn
     (follows_trans self.rank.view c.read_at.new.rank.view c.end_all.new.rank.view c.read_at.ensures.follows c.end_all.ensures.follows)
     c.end_all.ensures.truths c.end_all.ensures.tied (λ quiet. c.end_all.ensures.spares (λ writing. quiet (sym c.read_at.ensures.phase ∙ writing)) ∙ c.read_at.ensures.spares)
+
+pub returns-in-Err-clause-alone : goal.returns-in-Err-clause-alone
+returns-in-Err-clause-alone g c = λ alone.
+    never_for_others c.args.self.now.window.now.shape c.args.self.now.rank.view c.end_all.new.rank.view c.in-Err.why (returns-in-Err-clause-explained g c) alone
