@@ -1,1 +1,2 @@
 pub(crate) mod has_vertex;
+pub(crate) mod vertex_tags;

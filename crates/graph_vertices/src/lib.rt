@@ -2,5 +2,8 @@
 #![tactic(auto)]
 
 mod calls;
+mod finding;
+mod shown;
 
 pub use calls::has_vertex::has_vertex;
+pub use calls::vertex_tags::vertex_tags;
