@@ -40,7 +40,7 @@ agrees_before stays store agrees = λ object words is. agrees object words (stay
 
 -- ---- a vertex where an identifier leads
 
-module _ {shape : Shape} {contents : Contents} {g : Graph} (ranges : IsInRange shape) (is : Represents shape contents g) {id : ℕ} where
+module _ {shape : Shape} {contents : Contents} {g : Graph} (ranges : IsInRange shape) (is : Represents shape contents g) (id : ℕ) where
   pub led_to : {found : Option Place} → LeadsTo id found shape contents → at is.vertices id ≡ found
   led_to leads = ap (λ vertices. at vertices id) (buckets_fix_objects shape contents is.vertices leads.vertices ranges (represents_leads shape contents g is ranges) leads.led) ∙ leads.is
 
@@ -50,9 +50,6 @@ module _ {shape : Shape} {contents : Contents} {g : Graph} (ranges : IsInRange s
 
     pub object_here : object_of is.vertices id ≡ object
     object_here = ap (λ o. unwrap_or o metadata) leads
-
-    pub holder_here : VertexHolder
-    holder_here = holder_of g is.vertices is.edges id vertex_here.0
 
     pub holder_is : IsVertexHolder (holder_of g is.vertices is.edges id vertex_here.0)
     holder_is = holder_fits shape contents g is ranges id vertex_here.0 vertex_here.1
@@ -71,8 +68,8 @@ module _ {id : ℕ} {object : Place} {state : StoreState Noted} (ranges : IsInRa
   spelled_vertex = record {
     always = λ store may.
         let stands = knows.always store may in
-        let led = led_to ranges stands.represents (leads.always store may) in
-        record { held = holder_of stands.graph stands.represents.vertices stands.represents.edges id (vertex_here ranges stands.represents led).0; is = holder_is ranges stands.represents led; words = words_here ranges stands.represents led };
+        let led = led_to ranges stands.represents id (leads.always store may) in
+        record { held = holder_of stands.graph stands.represents.vertices stands.represents.edges id (vertex_here ranges stands.represents id led).0; is = holder_is ranges stands.represents id led; words = words_here ranges stands.represents id led };
     ordered = knows.ordered;
   }
 
@@ -80,7 +77,7 @@ module _ {id : ℕ} {object : Place} {state : StoreState Noted} (ranges : IsInRa
   is_unreserved sound =
       let may = may_be_here ranges sound in
       let stands = knows.always (committed state) may in
-      place_here ranges stands.represents (led_to ranges stands.represents (leads.always (committed state) may))
+      place_here ranges stands.represents id (led_to ranges stands.represents id (leads.always (committed state) may))
 
   pub is_block : IsSound Fits state → IsBlock state.shape object
   is_block sound =
@@ -96,7 +93,7 @@ module _ {id : ℕ} {old mid : StoreState Noted} (ranges : IsInRange old.shape) 
     looks = finds.looks;
     stands = still finds.looks knows;
     vertex = λ store g is agrees.
-        let none = none_here ranges is {id} (sym (finds.answer store is.vertices agrees (represents_leads old.shape (overlay store old.writes) g is ranges))) in
+        let none = none_here ranges is id (sym (finds.answer store is.vertices agrees (represents_leads old.shape (overlay store old.writes) g is ranges))) in
         sym (ap (λ o. option_map (holder_of g is.vertices is.edges id) o) none);
     reads = λ store g is agrees place. elim (bucket.reads place) [ inl here ↦ inl here | inr unread ↦ inr (inr unread) ];
   }
@@ -110,9 +107,9 @@ module _ {id : ℕ} {old mid : StoreState Noted} (ranges : IsInRange old.shape) 
         → Some holder ≡ option_map (holder_of g is.vertices is.edges id) (vertex_at g id)
     found_holder store g is agrees =
         let leads = led store g is agrees in
-        let vertex = vertex_here ranges is leads in
-        let same = vertex_same holder (holder_of g is.vertices is.edges id vertex.0) read.is (holder_is ranges is leads)
-            (sym (read.words store agrees) ∙ (ap (λ (writes : Contents). content_of (overlay store writes) object) finds.looks.writes ∙ words_here ranges is leads)) in
+        let vertex = vertex_here ranges is id leads in
+        let same = vertex_same holder (holder_of g is.vertices is.edges id vertex.0) read.is (holder_is ranges is id leads)
+            (sym (read.words store agrees) ∙ (ap (λ (writes : Contents). content_of (overlay store writes) object) finds.looks.writes ∙ words_here ranges is id leads)) in
         ap (λ (h : VertexHolder). Some h) same ∙ sym (ap (λ o. option_map (holder_of g is.vertices is.edges id) o) vertex.1)
 
     found_reads : (store : Contents) (g : Graph) (is : Represents old.shape (overlay store old.writes) g) → Agrees new.reads store → (place : Place)
@@ -120,7 +117,7 @@ module _ {id : ℕ} {old mid : StoreState Noted} (ranges : IsInRange old.shape) 
     found_reads store g is agrees place =
         let leads = led store g is agrees in
         elim (reaches.reads place) [
-          | inl here ↦ inr (inl (ap is_some (vertex_here ranges is leads).1, object_here ranges is leads ∙ sym here))
+          | inl here ↦ inr (inl (ap is_some (vertex_here ranges is id leads).1, object_here ranges is id leads ∙ sym here))
           | inr unread ↦ elim (bucket.reads place) [ inl here ↦ inl here | inr before ↦ inr (inr (unread ∙ before)) ]
         ]
 

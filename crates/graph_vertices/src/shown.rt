@@ -16,8 +16,10 @@ pub(crate) fn names_of(
     ensures { IfOk result (λ shown. shown ≡ map (λ n. unwrap_or (item_at names.now n) []) labels.now) }
 {
     let mut shown = NameList::new(alloc);
-    for label in labels.as_slice() {
-        shown.push(*names.at(*label as usize))?;
+    for place in 0..labels.len() {
+        let label = *labels.at(place);
+        let name = *names.at(label as usize);
+        shown.push(name)?;
     }
     Ok(shown)
 }

@@ -28,8 +28,9 @@ pub fn vertex_tags<S: Store<GraphLaw>>(
     let geometry = store.geometry();
     geometry.keeps_ranges();
     let found = find_vertex(alloc, store, id)?;
-    let Some(vertex) = found else {
-        return Ok(Reply::NoVertex(id));
+    let vertex = match found {
+        Some(vertex) => vertex,
+        None => return Ok(Reply::NoVertex(id)),
     };
     let names = find_names(alloc, store)?;
     match names_of(alloc, &names.labels, &vertex.labels) {
