@@ -1,3 +1,4 @@
 pub mod Looking
 pub mod VertexHere
-pub mod Naming
+pub mod Lines
+pub mod Showing

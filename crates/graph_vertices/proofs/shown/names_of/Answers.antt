@@ -1,5 +1,5 @@
 use Rattle.std.proofs.Common.{◌<◌, length}
-use Rattle.graph_vertices.proofs.Naming.{each_there, named_more}
+use Rattle.graph_vertices.proofs.Lines.{each_there, named_more}
 use Rattle.graph_vertices.proofs.shown.names_of.Goals as goal
 
 pub at-name-requires : goal.at-name-requires

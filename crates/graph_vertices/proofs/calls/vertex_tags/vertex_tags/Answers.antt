@@ -1,17 +1,19 @@
-use Rattle.std.proofs.Common.{rules, inl, subst, ◌∙◌}
+use Rattle.std.proofs.Common.{rules, arith, inl, refl, subst}
 use Rattle.gdi_kinds.specs.declared.call.Call.TheVariants.{Tags}
 use Rattle.rma_layout.specs.Ranges.{IsInRange}
 use Rattle.object_store.specs.Works.{Nowhere}
 use Rattle.object_store.proofs.Works.{fell_wider, went_wider, went-fell, went-gave_up, went-then}
 use Rattle.graph_law.proofs.Doing.{refuses_no_rank}
 use Rattle.graph_vertices.specs.Finding.{FindsVertex, IsAbout}
-use Rattle.graph_vertices.proofs.Naming.{labels_known, no_tags, tags_applied}
+use Rattle.graph_model.specs.Lookups.{names_of}
+use Rattle.gdi_kinds.specs.declared.reply.Reply.TheVariants.{Labels}
+use Rattle.graph_vertices.proofs.Showing.{labels_known, labels_shown, none_applied, shown_applied}
 use Rattle.graph_vertices.proofs.calls.vertex_tags.vertex_tags.Goals as goal
 
 pub returns-in-None-clause-applied : goal.returns-in-None-clause-applied
 returns-in-None-clause-applied g c =
     let found = subst (FindsVertex c.args.id (g.S.Store.state c.args.store.now) (g.S.Store.state c.find_vertex.new.store)) c.in-None.is c.in_ok-found.ensures.found in
-    no_tags (subst IsInRange c.geometry-geometry.ensures c.keeps_ranges.ensures) found
+    none_applied (subst IsInRange c.geometry-geometry.ensures c.keeps_ranges.ensures) (Tags c.args.id) (λ h vertex. Labels (names_of h vertex.labels)) (λ h. (0, omega arith, refl)) (λ h. refl) found
 
 pub returns-in_err-names-clause-works : goal.returns-in_err-names-clause-works
 returns-in_err-names-clause-works g c =
@@ -38,7 +40,8 @@ returns-in-Ok-clause-works g c = record {
 pub returns-in-Ok-clause-applied : goal.returns-in-Ok-clause-applied
 returns-in-Ok-clause-applied g c =
     let found = subst (FindsVertex c.args.id (g.S.Store.state c.args.store.now) (g.S.Store.state c.find_vertex.new.store)) c.in-Some.is c.in_ok-found.ensures.found in
-    tags_applied (subst IsInRange c.geometry-geometry.ensures c.keeps_ranges.ensures) found c.in_ok-names.ensures.found c.in_ok-names.ensures.works.went.reaches c.in-Ok.ensures
+    shown_applied (subst IsInRange c.geometry-geometry.ensures c.keeps_ranges.ensures) (Tags c.args.id) (λ h vertex. Labels (names_of h vertex.labels)) (λ h. (0, omega arith, refl)) (λ h. refl)
+    found c.in_ok-names.ensures.found c.in_ok-names.ensures.works.went.reaches (λ h vertices edges vertex named held. labels_shown h vertices edges c.args.id vertex named held c.in-Ok.ensures)
 
 pub returns-clause-works : goal.returns-clause-works
 returns-clause-works g c =
