@@ -7,7 +7,7 @@ use Rattle.rma_layout.specs.Shape.{Shape}
 use Rattle.rma_layout.specs.Ranges.{IsInRange}
 use Rattle.object_words.specs.Contents.{Agrees, Contents, overlay, words_at}
 use Rattle.graph_model.specs.Calls.{graph_after_call, reply_to}
-use Rattle.graph_model.specs.Capacity.{OfVertex, Reserved, make_of}
+use Rattle.graph_model.specs.Capacity.{OfVertex, Reserved}
 use Rattle.graph_model.specs.Graph.{Graph, is_vertex}
 use Rattle.graph_model.specs.Transactions.{graph_after_txn}
 use Rattle.holder_codec.specs.Keeping.{keeps_by_steps}
@@ -70,7 +70,7 @@ module _ {N : Type 0} {call : Call} {reply : Reply} {old new : StoreState N} (lo
   pub looks_applied : ((g : Graph) → graph_after_call old.shape g call ≡ g)
       → ((store : Contents) (g : Graph) (is : Represents old.shape (overlay store old.writes) g) → Agrees new.reads store → reply ≡ reply_to old.shape g call)
       → ((store : Contents) (g : Graph) (is : Represents old.shape (overlay store old.writes) g) → Agrees new.reads store → (place : Place)
-        → IsReached old.shape g call is.vertices is.edges place ⊎ (words_at new.reads place ≡ words_at old.reads place))
+      → IsReached old.shape g call is.vertices is.edges place ⊎ (words_at new.reads place ≡ words_at old.reads place))
       → AppliesCall call old new reply
   looks_applied same answer reads = record {
     did = λ store g is agrees. leaves is (same g) (answer store g is agrees) looks.writes;
