@@ -1,5 +1,5 @@
 -- The calls that show a vertex, on a store of a graph.
-use Rattle.std.proofs.Common.{◌≡◌, ◌∙◌, ℕ, ◌<◌, List, [], ◌∷◌, suc, length, map, Option, Some, None, refl, sym, ap, subst, inl, inr}
+use Rattle.std.proofs.Common.{◌≡◌, ◌∙◌, ℕ, ◌<◌, List, length, map, Option, Some, None, refl, sym, ap, subst, inl, inr}
 use Rattle.std.specs.List.{AllByRecursion}
 use Rattle.std.specs.Option.{option_map}
 use Rattle.std.proofs.lemmas.List.{length-map}
@@ -9,7 +9,7 @@ use Rattle.gdi_kinds.specs.declared.reply.Reply.{Reply}
 use Rattle.gdi_kinds.specs.declared.reply.Reply.TheVariants.{Labels, NoVertex, Props}
 use Rattle.rma_layout.specs.Shape.{Shape}
 use Rattle.rma_layout.specs.Ranges.{IsInRange}
-use Rattle.rma_layout.specs.Placement.{Place, metadata}
+use Rattle.rma_layout.specs.Placement.{metadata}
 use Rattle.object_words.specs.Contents.{Agrees, Contents, overlay}
 use Rattle.graph_model.specs.Calls.{steps_of}
 use Rattle.graph_model.specs.Graph.{Graph, Name, PropType, Vertex, vertex_at}
@@ -17,7 +17,6 @@ use Rattle.graph_model.specs.Lookups as shown
 use Rattle.graph_model.specs.Steps.{Answer, Step, ◌>>=◌, answer_of, found_or, leaves}
 use Rattle.holder_codec.specs.declared.held_prop.HeldProp.{HeldProp}
 use Rattle.holder_codec.specs.declared.meta_holder.MetaHolder.{MetaHolder}
-use Rattle.holder_codec.specs.declared.type_line.TypeLine.{TypeLine}
 use Rattle.holder_codec.specs.declared.vertex_holder.VertexHolder.{VertexHolder}
 use Rattle.holder_codec.specs.Represents.{EdgeObjects, Represents, VertexObjects, holder_of}
 use Rattle.holder_codec.proofs.Leading.{vertex_fits}

@@ -1,5 +1,5 @@
 -- A vertex and the names, as a transaction finds them in a store of a graph.
-use Rattle.std.proofs.Common.{◌≡◌, ◌∙◌, ℕ, ◌<◌, ◌%◌, mod-lt, true, Option, Some, None, refl, sym, ap, subst, arith, ◌⊎◌, inl, inr}
+use Rattle.std.proofs.Common.{◌≡◌, ◌∙◌, ℕ, ◌<◌, mod-lt, true, Option, Some, None, sym, ap, subst, arith, ◌⊎◌, inl, inr}
 use Rattle.std.specs.Prelude.{is_some}
 use Rattle.std.specs.Option.{option_map, unwrap_or}
 use Rattle.std.specs.Ordering.{nat_cmp}
@@ -20,7 +20,7 @@ use Rattle.holder_codec.proofs.Lengths.{vertex_same}
 use Rattle.holder_codec.proofs.Maps.{find-by_keys, none-by_keys}
 use Rattle.object_store.specs.Sound.{IsSound, StaysBegun}
 use Rattle.object_store.specs.State.{StoreState, committed}
-use Rattle.object_store.specs.Works.{At, Looks, Reaches}
+use Rattle.object_store.specs.Works.{At, Reaches}
 use Rattle.object_store.proofs.Works.{looks-then}
 use Rattle.held_objects.specs.Held.{FindsHolder, IsSpelled}
 use Rattle.held_objects.specs.Knows.{Knows}
@@ -109,7 +109,7 @@ module _ {id : ℕ} {old mid : StoreState Noted} (ranges : IsInRange old.shape) 
         let leads = led store g is agrees in
         let vertex = vertex_here ranges is id leads in
         let same = vertex_same holder (holder_of g is.vertices is.edges id vertex.0) read.is (holder_is ranges is id leads)
-            (sym (read.words store agrees) ∙ (ap (λ (writes : Contents). content_of (overlay store writes) object) finds.looks.writes ∙ words_here ranges is id leads)) in
+        (sym (read.words store agrees) ∙ (ap (λ (writes : Contents). content_of (overlay store writes) object) finds.looks.writes ∙ words_here ranges is id leads)) in
         ap (λ (h : VertexHolder). Some h) same ∙ sym (ap (λ o. option_map (holder_of g is.vertices is.edges id) o) vertex.1)
 
     found_reads : (store : Contents) (g : Graph) (is : Represents old.shape (overlay store old.writes) g) → Agrees new.reads store → (place : Place)

@@ -1,6 +1,6 @@
 -- What the calls on a vertex reach, and what they find.
 use Rattle.std.specs.Prelude.{◌≡◌, ℕ, true, Option, ◌⊎◌}
-use Rattle.std.specs.Option.{IfSome, option_map}
+use Rattle.std.specs.Option.{option_map}
 use Rattle.rma_layout.specs.Shape.{Shape}
 use Rattle.rma_layout.specs.Placement.{Place, bucket_of, home_of, metadata}
 use Rattle.object_words.specs.Contents.{Agrees, Contents, overlay, words_at}

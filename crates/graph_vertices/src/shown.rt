@@ -33,7 +33,9 @@ pub(crate) fn lines_of(
 ) -> Result<PropList, NoMemory>
     requires { AllByRecursion (λ prop. prop.number < length types.now) props.now }
     ensures { IfOk result (λ lines. lines ≡ map (λ prop. record {
-        name = option_map_or (λ type. type.name) (item_at types.now prop.number) []; value = prop.value }) props.now) }
+      name = option_map_or (λ type. type.name) (item_at types.now prop.number) [];
+      value = prop.value;
+    }) props.now) }
 {
     let mut lines = PropList::new(alloc);
     for place in 0..props.len() {

@@ -1,4 +1,4 @@
-use Rattle.std.proofs.Common.{rules, Some, None, inl, inr, sym, subst}
+use Rattle.std.proofs.Common.{rules, inl, inr, sym, subst}
 use Rattle.rma_layout.specs.Ranges.{IsInRange}
 use Rattle.rma_layout.specs.Placement.{Place, home_of}
 use Rattle.holder_codec.specs.Represents.{IsUnreserved}
@@ -41,8 +41,8 @@ returns-in_err-holder-in-Some-clause-works g c =
     let finds = subst (Finds c.args.id (g.S.Store.state c.args.store.now) mid) c.in-Some.is c.in_ok-found.ensures.found in
     let there = is_unreserved (subst IsInRange (sym went.keeps.shape) ranges) (still finds.looks c.requires.stands) finds.leads_to went.keeps.sound in
     let did = went-fell (went_wider {Whole = IsAbout c.args.id} {Homes = Nowhere} (λ place is. inr (inl is)) (λ rank never. never) went)
-        (fell_wider {One = IsAbout c.args.id} {Homes = Nowhere} (λ place is. inr (inr (subst (λ (p : Place). IsUnreserved mid.shape (home_of mid.shape c.args.id) p) (sym is) there))) (λ rank never. never)
-        c.in_err-holder-in-Some.ensures.works.fell) in
+    (fell_wider {One = IsAbout c.args.id} {Homes = Nowhere} (λ place is. inr (inr (subst (λ (p : Place). IsUnreserved mid.shape (home_of mid.shape c.args.id) p) (sym is) there))) (λ rank never. never)
+    c.in_err-holder-in-Some.ensures.works.fell) in
     search rules
 
 pub returns-in_ok-holder-in-Some-clause-works : goal.returns-in_ok-holder-in-Some-clause-works

@@ -1,6 +1,4 @@
-use Rattle.std.proofs.Common.{ap, refl}
-use Rattle.gdi_kinds.specs.declared.prop_line.PropLine.{PropLine}
-use Rattle.holder_codec.specs.declared.type_line.TypeLine.{TypeLine}
+use Rattle.std.proofs.Common.{refl}
 use Rattle.graph_vertices.proofs.Lines.{lined_more}
 use Rattle.graph_vertices.proofs.shown.lines_of.Goals as goal
 
