@@ -7,20 +7,22 @@ use fabric::Window;
 use gdi_kinds::{Kind, Name, Reply};
 use graph_law::GraphLaw;
 use graph_names::{new_label, new_type};
-use graph_vertices::has_vertex;
+use graph_vertices::{has_vertex, vertex_props, vertex_tags};
 use object_store::{PlainStore, Store};
 use object_txn::WindowStore;
 use rma_layout::Geometry;
 use std::alloc::Global;
 use std::test::Fail;
 
-/// The replies to a label that is made twice, to a type, and to whether a vertex is there.
+/// The replies to a label that is made twice, to a type, and to what is asked of a vertex that isn't there.
 #[derive(Debug, Drop)]
 struct Replies {
     label: Reply,
     again: Reply,
     typed: Reply,
     has: Reply,
+    tags: Reply,
+    props: Reply,
 }
 
 fn name_and_ask<S: Store<GraphLaw>>(
@@ -35,12 +37,16 @@ fn name_and_ask<S: Store<GraphLaw>>(
     let again = new_label(alloc, store, name)?;
     let typed = new_type(alloc, store, name, Kind::Int, true)?;
     let has = has_vertex(alloc, store, 5)?;
+    let tags = vertex_tags(alloc, store, 5)?;
+    let props = vertex_props(alloc, store, 5)?;
     store.abort();
     Ok(Replies {
         label,
         again,
         typed,
         has,
+        tags,
+        props,
     })
 }
 
@@ -55,6 +61,8 @@ fn names_are_made_once(rt: HostRuntime) -> Result<(), Fail> {
     assert!(rt; matches!(&replies.again, Reply::Exists));
     assert!(rt; matches!(&replies.typed, Reply::Done));
     assert!(rt; matches!(&replies.has, Reply::No));
+    assert!(rt; matches!(&replies.tags, Reply::NoVertex(5)));
+    assert!(rt; matches!(&replies.props, Reply::NoVertex(5)));
     Ok(())
 }
 

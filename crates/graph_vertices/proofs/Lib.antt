@@ -1,1 +1,4 @@
 pub mod Looking
+pub mod VertexHere
+pub mod Lines
+pub mod Showing

@@ -1,1 +1,3 @@
 pub(crate) mod has_vertex;
+pub(crate) mod vertex_props;
+pub(crate) mod vertex_tags;

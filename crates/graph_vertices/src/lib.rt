@@ -2,5 +2,9 @@
 #![tactic(auto)]
 
 mod calls;
+mod finding;
+mod shown;
 
 pub use calls::has_vertex::has_vertex;
+pub use calls::vertex_props::vertex_props;
+pub use calls::vertex_tags::vertex_tags;
