@@ -1,5 +1,2 @@
 pub mod Bools
-pub mod Rows
-pub mod Marking
-pub mod Fronts
-pub mod Naming
+pub mod Finding

@@ -1,12 +1,9 @@
 //! What walks over the steps of a graph reach: levels from a vertex, and components.
 #![tactic(auto)]
 
-mod levels;
-mod marks;
-mod spreading;
-mod step_rows;
+mod gather;
+mod places;
+mod step_list;
 
-pub use levels::levels_from;
-pub use marks::Marks;
-pub use spreading::components;
-pub use step_rows::StepRows;
+pub use places::Places;
+pub use step_list::StepList;

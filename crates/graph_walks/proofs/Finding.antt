@@ -1,0 +1,71 @@
+-- Lists by place: what stands in them and where, and what rises.
+use Rattle.std.proofs.Common.{◌≡◌, ℕ, ◌⊎◌, zero, suc, ◌+◌, ◌<◌, ◌≤◌, Bool, true, false, List, [], ◌∷◌, length, get_or, Option, Some, None, inl, inr, refl, sym, ap, subst, ◌∙◌, arith}
+use Rattle.std.specs.Prelude.{◌==◌}
+use Rattle.std.specs.List.{AllByRecursion, slice_get}
+use Rattle.std.proofs.lemmas.Bool.{or_cases, or_left, or_right, eqb-true, eq-eqb, false_from_ne_true}
+use Rattle.graph_model.specs.Maps.{IsSet, has}
+use Rattle.graph_model.proofs.Entries.{same_value, nothing, never}
+use Rattle.graph_walks.specs.Steps.{Rises}
+
+pub has-place : (xs : List ℕ) (x : ℕ) → has xs x ≡ true → (k : ℕ) × (k < length xs) × (get_or xs k 0 ≡ x)
+has-place [] x there = never there
+has-place (y ∷ ys) x there =
+    elim (or_cases (y == x) (has ys x) there) [
+      | inl here ↦ (0, omega arith, eqb-true y x here)
+      | inr later ↦ let rest = has-place ys x later in (suc rest.0, omega (arith, rest.1), rest.2)
+    ]
+
+pub place-has : (xs : List ℕ) (k x : ℕ) → k < length xs → get_or xs k 0 ≡ x → has xs x ≡ true
+place-has [] k x below is = absurd (omega (arith, below))
+place-has (y ∷ ys) zero x below is = or_left _ _ (eq-eqb y x is)
+place-has (y ∷ ys) (suc k) x below is = or_right _ _ (place-has ys k x (omega (arith, below)) is)
+
+pub absent : (xs : List ℕ) (x : ℕ) → ((k : ℕ) → k < length xs → get_or xs k 0 ≡ x → ⊥) → has xs x ≡ false
+absent xs x not_there = false_from_ne_true (has xs x) (λ there. let k = has-place xs x there in not_there k.0 k.1 k.2)
+
+pub got : (xs : List ℕ) (k x : ℕ) → slice_get xs k ≡ Some x → (k < length xs) × (get_or xs k 0 ≡ x)
+got [] k x is = nothing x is
+got (y ∷ ys) zero x is = (omega arith, same_value y x is)
+got (y ∷ ys) (suc k) x is = let rest = got ys k x is in (omega (arith, rest.0), rest.1)
+
+pub get-at : (xs : List ℕ) (k : ℕ) → k < length xs → slice_get xs k ≡ Some (get_or xs k 0)
+get-at [] k below = absurd (omega (arith, below))
+get-at (y ∷ ys) zero below = refl
+get-at (y ∷ ys) (suc k) below = get-at ys k (omega (arith, below))
+
+above : (x k : ℕ) (xs : List ℕ) → AllByRecursion (λ m. x < m) xs → k < length xs → x < get_or xs k 0
+above x k [] all below = absurd (omega (arith, below))
+above x zero (y ∷ ys) all below = all.0
+above x (suc k) (y ∷ ys) all below = above x k ys all.1 (omega (arith, below))
+
+pub set-rises : (xs : List ℕ) → IsSet xs → Rises xs
+set-rises [] set i j less below = absurd (omega (arith, below))
+set-rises (x ∷ xs) set zero zero less below = absurd (omega (arith, less))
+set-rises (x ∷ xs) set zero (suc j) less below = above x j xs set.0 (omega (arith, below))
+set-rises (x ∷ xs) set (suc i) zero less below = absurd (omega (arith, less))
+set-rises (x ∷ xs) set (suc i) (suc j) less below = set-rises xs set.1 i j (omega (arith, less)) (omega (arith, below))
+
+pub order : (a b : ℕ) → (a ≤ b) ⊎ (b < a)
+order zero b = inl (omega arith)
+order (suc a) zero = inr (omega arith)
+order (suc a) (suc b) = elim (order a b) [ inl up ↦ inl (omega (arith, up)) | inr down ↦ inr (omega (arith, down)) ]
+
+-- where halving ended, with what is below before it and what isn't behind
+module _ (xs : List ℕ) (x low : ℕ) (before : (k : ℕ) → k < low → get_or xs k 0 < x) (rises : Rises xs) (behind : (k : ℕ) → low ≤ k → k < length xs → x ≤ get_or xs k 0) where
+  pub all_below : length xs ≤ low → has xs x ≡ false
+  all_below all = absent xs x (λ k below is. let less = before k (omega (arith, below, all)) in absurd (omega (arith, less, is)))
+
+  pub passed_over : low < length xs → (get_or xs low 0 ≡ x → ⊥) → has xs x ≡ false
+  passed_over within other =
+      absent xs x (λ k below is.
+      elim (Rattle.std.proofs.lemmas.Bool.cases_eq k low) [
+        | inl same ↦ other (ap (λ n. get_or xs n 0) (sym same) ∙ is)
+        | inr differs ↦
+            elim (order low k) [
+              | inl later ↦
+                  let less = rises low k (omega (arith, later, differs)) below in
+                  let least = behind low (omega arith) within in
+                  absurd (omega (arith, less, least, is))
+              | inr earlier ↦ let less = before k earlier in absurd (omega (arith, less, is))
+            ]
+      ])
