@@ -64,3 +64,8 @@ at_one p id j b is =
       | true ↦ λ same. ap (λ x. x && true) (ap p (sym (eqb-true id j same)) ∙ sym is)
       | false ↦ λ _. and-false (p j) ∙ sym (and-false b)
     ] refl
+
+pub same_tests : (a b : Bool) → (a ≡ true → b ≡ true) → (b ≡ true → a ≡ true) → a ≡ b
+same_tests true b f g = sym (f refl)
+same_tests false true f g = g refl
+same_tests false false f g = refl

@@ -2,7 +2,7 @@
 use Rattle.std.proofs.Common.{◌≡◌, ℕ, ◌⊎◌, zero, suc, ◌+◌, ◌<◌, ◌≤◌, Bool, true, false, List, [], ◌∷◌, length, get_or, Option, Some, None, inl, inr, refl, sym, ap, subst, ◌∙◌, arith}
 use Rattle.std.specs.Prelude.{◌==◌}
 use Rattle.std.specs.List.{AllByRecursion, slice_get}
-use Rattle.std.proofs.lemmas.Bool.{or_cases, or_left, or_right, eqb-true, eq-eqb, false_from_ne_true}
+use Rattle.std.proofs.lemmas.Bool.{cases_eq, cases_lt, or_cases, or_left, or_right, eqb-true, eq-eqb, false_from_ne_true}
 use Rattle.graph_model.specs.Maps.{IsSet, has}
 use Rattle.graph_model.proofs.Entries.{same_value, nothing, never}
 use Rattle.graph_walks.specs.Steps.{Rises}
@@ -45,11 +45,6 @@ set-rises (x ∷ xs) set zero (suc j) less below = above x j xs set.0 (omega (ar
 set-rises (x ∷ xs) set (suc i) zero less below = absurd (omega (arith, less))
 set-rises (x ∷ xs) set (suc i) (suc j) less below = set-rises xs set.1 i j (omega (arith, less)) (omega (arith, below))
 
-pub order : (a b : ℕ) → (a ≤ b) ⊎ (b < a)
-order zero b = inl (omega arith)
-order (suc a) zero = inr (omega arith)
-order (suc a) (suc b) = elim (order a b) [ inl up ↦ inl (omega (arith, up)) | inr down ↦ inr (omega (arith, down)) ]
-
 -- where halving ended, with what is below before it and what isn't behind
 module _ (xs : List ℕ) (x low : ℕ) (before : (k : ℕ) → k < low → get_or xs k 0 < x) (rises : Rises xs) (behind : (k : ℕ) → low ≤ k → k < length xs → x ≤ get_or xs k 0) where
   pub all_below : length xs ≤ low → has xs x ≡ false
@@ -58,14 +53,14 @@ module _ (xs : List ℕ) (x low : ℕ) (before : (k : ℕ) → k < low → get_o
   pub passed_over : low < length xs → (get_or xs low 0 ≡ x → ⊥) → has xs x ≡ false
   passed_over within other =
       absent xs x (λ k below is.
-      elim (Rattle.std.proofs.lemmas.Bool.cases_eq k low) [
+      elim (cases_eq k low) [
         | inl same ↦ other (ap (λ n. get_or xs n 0) (sym same) ∙ is)
         | inr differs ↦
-            elim (order low k) [
-              | inl later ↦
+            elim (cases_lt k low) [
+              | inr later ↦
                   let less = rises low k (omega (arith, later, differs)) below in
                   let least = behind low (omega arith) within in
                   absurd (omega (arith, less, least, is))
-              | inr earlier ↦ let less = before k earlier in absurd (omega (arith, less, is))
+              | inl earlier ↦ let less = before k earlier in absurd (omega (arith, less, is))
             ]
       ])

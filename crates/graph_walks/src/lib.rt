@@ -1,9 +1,17 @@
 //! What walks over the steps of a graph reach: levels from a vertex, and components.
 #![tactic(auto)]
 
+mod flat_steps;
 mod gather;
+mod levels;
+mod marks;
 mod places;
+mod spreading;
 mod step_list;
 
+pub use flat_steps::FlatSteps;
+pub use levels::levels_from;
+pub use marks::Marks;
 pub use places::Places;
+pub use spreading::components;
 pub use step_list::StepList;

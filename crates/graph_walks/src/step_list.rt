@@ -1,4 +1,4 @@
-ghost use Rattle.std.specs.Prelude.{◌≡◌, ◌&&◌, [], ◌∷◌, ◌++◌, IfOk, OnOk, if◌then◌else◌};
+ghost use Rattle.std.specs.Prelude.{◌≡◌, ◌&&◌, [], ◌∷◌, ◌++◌, length, IfOk, OnOk, if◌then◌else◌};
 ghost use Rattle.graph_model.specs.Maps.{has};
 ghost use Rattle.graph_walks.specs.Steps.{steps_of};
 ghost use Rattle.graph_walks.specs.Flat.{ArePlaces, AreWithin};
@@ -55,5 +55,13 @@ impl StepList {
         let count = self.places.len();
         self.hops.push((from as u32, to as u32))?;
         Ok(())
+    }
+
+    /// The vertices, and the steps from place to place.
+    pub(crate) fn into_parts(self) -> (Places, Vec<(u32, u32)>)
+        ensures parts { self ≡ (record { ids = result.0; hops = result.1.items }) }
+        ensures within { AreWithin (length result.0) result.1.items }
+    {
+        (self.places, self.hops)
     }
 }
