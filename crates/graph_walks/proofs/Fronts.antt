@@ -62,7 +62,7 @@ pub least-none : (p : ℕ → Bool) (n : ℕ) → least_below p n ≡ None → (
 least-none p n none m below =
     false_from_ne_true (p m) (λ passes. true≢false (sym (find-in_range p 0 n m (omega arith) (omega (arith, below)) passes) ∙ ap is_some none))
 
-least-is_none : (p : ℕ → Bool) (n : ℕ) → ((m : ℕ) → m < n → p m ≡ false) → is_none (least_below p n) ≡ true
+pub least-is_none : (p : ℕ → Bool) (n : ℕ) → ((m : ℕ) → m < n → p m ≡ false) → is_none (least_below p n) ≡ true
 least-is_none p n fails =
     elim (least_below p n) as (λ o. least_below p n ≡ o → is_none o ≡ true) [
       | None ↦ λ _. refl

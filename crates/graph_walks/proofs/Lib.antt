@@ -3,5 +3,7 @@ pub mod Finding
 pub mod Filling
 pub mod Rows
 pub mod Listing
+pub mod Marking
 pub mod Fronts
+pub mod Renaming
 pub mod Naming

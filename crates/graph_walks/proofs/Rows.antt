@@ -2,7 +2,7 @@
 use Rattle.std.proofs.Common.{◌≡◌, ℕ, zero, suc, ◌+◌, ◌-◌, ◌<◌, ◌≤◌, Bool, true, false, ◌&&◌, ◌||◌, List, [], ◌∷◌, ◌++◌, length, get_or, take, drop, map, inl, inr, refl, sym, ap, subst, ◌∙◌, arith}
 use Rattle.std.specs.Prelude.{◌==◌}
 use Rattle.std.specs.List.{flat_map, range_with_len, slice_range}
-use Rattle.std.proofs.lemmas.Bool.{cases_lt, or_cases, or_left, or_right, and_parts, and_from, eqb-true, eq-eqb}
+use Rattle.std.proofs.lemmas.Bool.{false_from_ne_true, cases_lt, or_cases, or_left, or_right, and_parts, and_from, eqb-true, eq-eqb}
 use Rattle.std.proofs.lemmas.List.{append-nil, drop_all, take_all, get_or-take, get_or-drop, get_or_append_left, get_or_push, length-append, length-take-le, length-drop}
 use Rattle.std.proofs.lemmas.List.Folds.{list_any-append}
 use Rattle.graph_model.specs.Maps.{has}
@@ -152,3 +152,20 @@ module _ (n : ℕ) (hops : List (ℕ × ℕ)) (within : AreWithin n hops) (start
       let j = filled.full p t (omega (arith, below, count)) led in
       rows_lead (row_at more ends) 0 n p t (omega arith) (omega (arith, below))
       (range_has ends (get_or more p 0) (get_or more (p + 1) 0) j.0 t (omega (arith, ap (λ xs. get_or xs p 0) is, old, j.1)) (omega (arith, to, j.2)) (are_rows.within p below) j.3))
+
+-- ---- rows as they are held
+
+module _ (n : ℕ) (starts ends : List ℕ) (are : AreRows n starts ends) where
+  pub row_is : (p t : ℕ) → p < n → has (row_at starts ends p) t ≡ leads (hops_of starts ends n) p t
+  row_is p t below =
+      same_tests _ _ (λ there. rows_lead (row_at starts ends) 0 n p t (omega arith) (omega (arith, below)) there) (λ led. (led_by_rows (row_at starts ends) 0 n p t led).2)
+
+  pub no_row : (p t : ℕ) → n ≤ p → false ≡ leads (hops_of starts ends n) p t
+  no_row p t above = sym (false_from_ne_true _ (λ led. let row = led_by_rows (row_at starts ends) 0 n p t led in absurd (omega (arith, row.1, above))))
+
+  pub rows-within : (p t : ℕ) → leads (hops_of starts ends n) p t ≡ true → (p < n) × (t < n)
+  rows-within p t led =
+      let row = led_by_rows (row_at starts ends) 0 n p t led in
+      let below : p < n = omega (arith, row.1) in
+      let j = has_range ends (get_or starts p 0) (get_or starts (p + 1) 0) t (are.rise p below) (are.within p below) row.2 in
+      (below, let inside = are.each j.0 (omega (arith, j.2, are.within p below)) in omega (arith, inside, j.3))

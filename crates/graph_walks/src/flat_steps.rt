@@ -65,7 +65,8 @@ impl FlatSteps {
 
     /// The places where the steps from a place lead. There is none where no vertex is.
     pub(crate) fn row(&self, place: usize) -> &[u32]
-        ensures { (t : ℕ) → has result.now t ≡ leads self.now.hops place t }
+        ensures hops { (t : ℕ) → has result.now t ≡ leads self.now.hops place t }
+        ensures within { (t : ℕ) → IsTrue (has result.now t) → t < length self.now.ids }
     {
         if place >= self.places.len() {
             return &[];

@@ -23,10 +23,13 @@ pub fn levels_from(
     ensures levels { IfOk result (λ levels. (place : ℕ) → place < length steps.now.ids → mark_at levels place
         ≡ least_below (λ n. is_walk_by (steps_of steps.now) n from (slice_index steps.now.ids place)) bound) }
 {
-    match steps.places().place(from) {
-        Some(place) => levels_at(alloc, steps, place, bound),
-        None => Marks::new(alloc, steps.len()),
-    }
+    let count = steps.len();
+    let Some(place) = steps.places().place(from) else {
+        let unmarked = Marks::new(alloc, count)?;
+        return Ok(unmarked);
+    };
+    let levels = levels_at(alloc, steps, place, bound)?;
+    Ok(levels)
 }
 
 // The same by places.
