@@ -7,3 +7,4 @@ pub mod Marking
 pub mod Fronts
 pub mod Renaming
 pub mod Naming
+pub mod Answering

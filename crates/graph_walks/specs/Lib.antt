@@ -3,3 +3,4 @@ pub mod Marks
 pub mod Flat
 pub mod Filling
 pub mod Naming
+pub mod Reached

@@ -1,6 +1,7 @@
 //! What walks over the steps of a graph reach: levels from a vertex, and components.
 #![tactic(auto)]
 
+mod answers;
 mod flat_steps;
 mod gather;
 mod levels;
@@ -9,6 +10,7 @@ mod places;
 mod spreading;
 mod step_list;
 
+pub use answers::{hood_of, levels_of, parts_of};
 pub use flat_steps::FlatSteps;
 pub use levels::levels_from;
 pub use marks::Marks;
