@@ -76,8 +76,11 @@ module _ (g : ℕ → ℕ) where
   count-over p q a zero same = refl
   count-over p q a (suc n) same =
       omega (
-        arith, count-over p q (a + 1) n (λ k from up. same k (omega (arith, from)) (omega (arith, up))), ap one_if (same a (omega arith) (omega arith)),
-        sum_by-cons (λ (k : ℕ). cond (p k) 1 0) a (range_with_len (a + 1) n), sum_by-cons (λ (k : ℕ). cond (q k) 1 0) (g a) (map g (range_with_len (a + 1) n)),
+        arith,
+        count-over p q (a + 1) n (λ k from up. same k (omega (arith, from)) (omega (arith, up))),
+        ap one_if (same a (omega arith) (omega arith)),
+        sum_by-cons (λ (k : ℕ). cond (p k) 1 0) a (range_with_len (a + 1) n),
+        sum_by-cons (λ (k : ℕ). cond (q k) 1 0) (g a) (map g (range_with_len (a + 1) n)),
       )
 
 module _ (ids : List ℕ) where

@@ -1,5 +1,5 @@
 -- Lists by place: what stands in them and where, and what rises.
-use Rattle.std.proofs.Common.{◌≡◌, ℕ, ◌⊎◌, zero, suc, ◌+◌, ◌<◌, ◌≤◌, Bool, true, false, List, [], ◌∷◌, length, get_or, Option, Some, None, inl, inr, refl, sym, ap, subst, ◌∙◌, arith}
+use Rattle.std.proofs.Common.{◌≡◌, ℕ, ◌⊎◌, zero, suc, ◌+◌, ◌-◌, ◌<◌, ◌≤◌, Bool, true, false, List, [], ◌∷◌, length, get_or, Option, Some, None, inl, inr, refl, sym, ap, subst, ◌∙◌, arith}
 use Rattle.std.specs.Prelude.{◌==◌}
 use Rattle.std.specs.List.{AllByRecursion, slice_get}
 use Rattle.std.proofs.lemmas.Bool.{cases_eq, cases_lt, or_cases, or_left, or_right, eqb-true, eq-eqb, false_from_ne_true}
@@ -64,3 +64,22 @@ module _ (xs : List ℕ) (x low : ℕ) (before : (k : ℕ) → k < low → get_o
               | inl earlier ↦ let less = before k earlier in absurd (omega (arith, less, is))
             ]
       ])
+
+-- rising numbers are as far apart as their places, or further
+apart : (xs : List ℕ) → Rises xs → (i d : ℕ) → i + d < length xs → get_or xs i 0 + d ≤ get_or xs (i + d) 0
+apart xs rises i zero below = let same : i + zero ≡ i = omega arith in omega (arith, ap (λ k. get_or xs k 0) same)
+apart xs rises i (suc d) below =
+    let next : (i + d) + 1 ≡ i + suc d = omega arith in
+    let up = rises (i + d) (i + suc d) (omega arith) below in
+    let before = apart xs rises i d (omega (arith, below)) in
+    omega (arith, up, before)
+
+pub consecutive : (xs : List ℕ) (last : ℕ) → Rises xs → length xs ≡ last + 1 → get_or xs last 0 - get_or xs 0 0 ≡ last → (k : ℕ) → k < length xs → get_or xs k 0 ≡ get_or xs 0 0 + k
+consecutive xs last rises long span k below =
+    let low = apart xs rises 0 k (omega (arith, below)) in
+    let zero_k : 0 + k ≡ k = omega arith in
+    let sum : k + (last - k) ≡ last = omega (arith, below, long) in
+    let high = apart xs rises k (last - k) (omega (arith, below, long)) in
+    let whole = apart xs rises 0 last (omega (arith, long)) in
+    let zero_last : 0 + last ≡ last = omega arith in
+    omega (arith, low, high, whole, span, below, long, ap (λ n. get_or xs n 0) zero_k, ap (λ n. get_or xs n 0) sum, ap (λ n. get_or xs n 0) zero_last)

@@ -13,10 +13,10 @@ use Rattle.graph_walks.proofs.Finding.{has-place, place-has}
 use Rattle.graph_walks.proofs.Fronts.{least-is_none}
 
 module _ (ids : List ℕ) where
-  abbrev named : List (ℕ × ℕ) → List (ℕ × ℕ)
+  abbrev pub named : List (ℕ × ℕ) → List (ℕ × ℕ)
   named hops = map (λ hop. (get_or ids hop.0 0, get_or ids hop.1 0)) hops
 
-  step_named : (hops : List (ℕ × ℕ)) (a b : ℕ) → leads hops a b ≡ true → leads (named hops) (get_or ids a 0) (get_or ids b 0) ≡ true
+  pub step_named : (hops : List (ℕ × ℕ)) (a b : ℕ) → leads hops a b ≡ true → leads (named hops) (get_or ids a 0) (get_or ids b 0) ≡ true
   step_named [] a b led = never led
   step_named (h ∷ hs) a b led =
       elim (or_cases (h.0 == a && h.1 == b) (leads hs a b) led) [
@@ -26,7 +26,7 @@ module _ (ids : List ℕ) where
         | inr later ↦ or_right _ _ (step_named hs a b later)
       ]
 
-  step_placed : (hops : List (ℕ × ℕ)) (i t : ℕ) → leads (named hops) i t ≡ true → (a : ℕ) × (b : ℕ) × (leads hops a b ≡ true) × (get_or ids a 0 ≡ i) × (get_or ids b 0 ≡ t)
+  pub step_placed : (hops : List (ℕ × ℕ)) (i t : ℕ) → leads (named hops) i t ≡ true → (a : ℕ) × (b : ℕ) × (leads hops a b ≡ true) × (get_or ids a 0 ≡ i) × (get_or ids b 0 ≡ t)
   step_placed [] i t led = never led
   step_placed (h ∷ hs) i t led =
       elim (or_cases (get_or ids h.0 0 == i && get_or ids h.1 0 == t) (leads (named hs) i t) led) [
@@ -141,3 +141,20 @@ pub range-get : (a n k : ℕ) → k < n → slice_get (range_with_len a n) k ≡
 range-get a zero k below = absurd (omega (arith, below))
 range-get a (suc n) zero below = let same : a ≡ a + zero = omega arith in ap Some same
 range-get a (suc n) (suc k) below = let same : (a + 1) + k ≡ a + suc k = omega arith in range-get (a + 1) n k (omega (arith, below)) ∙ ap Some same
+
+-- the same hops are the same steps
+steps-along : (ids : List ℕ) (a b : List (ℕ × ℕ)) → ((p t : ℕ) → leads a p t ≡ leads b p t) → (i t : ℕ) → leads (named ids a) i t ≡ true → leads (named ids b) i t ≡ true
+steps-along ids a b same i t led =
+    let step = step_placed ids a i t led in
+    ap (λ x. leads (named ids b) x t) (sym step.3) ∙ ap (λ x. leads (named ids b) (get_or ids step.0 0) x) (sym step.4) ∙ step_named ids b step.0 step.1 (sym (same step.0 step.1) ∙ step.2)
+
+pub same_steps : (ids : List ℕ) (a b : List (ℕ × ℕ)) → ((p t : ℕ) → leads a p t ≡ leads b p t) → (i t : ℕ) → leads (named ids a) i t ≡ leads (named ids b) i t
+same_steps ids a b same i t = same_tests _ _ (steps-along ids a b same i t) (steps-along ids b a (λ p t. sym (same p t)) i t)
+
+-- steps that may be taken back are hops that may be
+pub hops_back : (h : Hops) → Rises h.ids → ((i t : ℕ) → leads h.hops i t ≡ true → (i < length h.ids) × (t < length h.ids)) → Rattle.graph_walks.specs.Steps.IsTwoWay (steps_of h) → Rattle.graph_walks.specs.Steps.IsTwoWay h.hops
+hops_back h rises within two_way = λ a b led.
+    let ends = within a b led in
+    let back = step_placed h.ids h.hops (get_or h.ids b 0) (get_or h.ids a 0) (two_way (get_or h.ids a 0) (get_or h.ids b 0) (step_named h.ids h.hops a b led)) in
+    let inside = within back.0 back.1 back.2 in
+    ap (λ x. leads h.hops x a) (sym (same_place h rises within back.0 b inside.0 ends.1 back.3)) ∙ ap (λ x. leads h.hops back.0 x) (sym (same_place h rises within back.1 a inside.1 ends.0 back.4)) ∙ back.2

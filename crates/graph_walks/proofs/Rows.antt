@@ -89,7 +89,9 @@ all-below (h ∷ hs) n within =
     let first = within.each 0 h (omega arith) in
     let rest : AreWithin n hs = record { each = λ k d below. within.each (suc k) d (omega (arith, below)) } in
     omega (
-      arith, all-below hs n rest, Rattle.std.proofs.lemmas.List.Sums.sum_by-cons (λ (hop : ℕ × ℕ). Rattle.graph_walks.proofs.Filling.one_if (Rattle.std.specs.Prelude.nat_lt hop.0 n)) h hs,
+      arith,
+      all-below hs n rest,
+      Rattle.std.proofs.lemmas.List.Sums.sum_by-cons (λ (hop : ℕ × ℕ). Rattle.graph_walks.proofs.Filling.one_if (Rattle.std.specs.Prelude.nat_lt hop.0 n)) h hs,
       ap Rattle.graph_walks.proofs.Filling.one_if (Rattle.std.proofs.lemmas.Bool.lt-ltb h.0 n first.0),
     )
 

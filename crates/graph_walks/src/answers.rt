@@ -6,7 +6,10 @@ ghost use Rattle.graph_walks.specs.Marks.{mark_at};
 ghost use Rattle.graph_walks.specs.Reached.{AreNames, is_this, is_within, level_by, pair_if, parts_by};
 ghost use Rattle.graph_walks.specs.Steps.{IsTwoWay, steps_of};
 
-use crate::{FlatSteps, Marks, components, levels_from};
+use crate::FlatSteps;
+use crate::levels::levels_from;
+use crate::marks::Marks;
+use crate::spreading::components;
 use gdi_kinds::{NoMemory, NumList, Pair, PairList};
 use std::alloc::Global;
 
@@ -40,7 +43,7 @@ pub fn hood_of(alloc: Global, steps: &FlatSteps, from: u64, depth: u64) -> Resul
 
 /// The least vertex of each component, with how many vertices it has. Each step may be taken back.
 pub fn parts_of(alloc: Global, steps: &FlatSteps) -> Result<PairList, NoMemory>
-    requires { IsTwoWay steps.now.hops }
+    requires { IsTwoWay (steps_of steps.now) }
     ensures { IfOk result (λ parts. (name : ℕ → ℕ) → AreNames (steps_of steps.now) steps.now.ids name → parts ≡ parts_by name steps.now.ids) }
 {
     let _count = steps.len();
@@ -87,12 +90,7 @@ fn push_pair(pairs: &mut PairList, id: u64, mark: Option<u32>) -> Result<(), NoM
 }
 
 // The vertices whose marks are at most this.
-fn those_within(
-    alloc: Global,
-    ids: &[u64],
-    marks: &Marks,
-    most: u64,
-) -> Result<NumList, NoMemory>
+fn those_within(alloc: Global, ids: &[u64], marks: &Marks, most: u64) -> Result<NumList, NoMemory>
     requires { length marks.now ≡ length ids.now }
     ensures { IfOk result (λ found. found
         ≡ map (slice_index ids.now) (filter (λ p. is_within most (mark_at marks.now p)) (range_with_len 0 (length ids.now)))) }
@@ -123,17 +121,12 @@ fn push_if(found: &mut NumList, id: u64, passes: bool) -> Result<(), NoMemory>
 }
 
 // The vertices whose places are marked with themselves, each with its number.
-fn own_of(
-    alloc: Global,
-    ids: &[u64],
-    marks: &Marks,
-    numbers: &[u64],
-) -> Result<PairList, NoMemory>
+fn own_of(alloc: Global, ids: &[u64], marks: &Marks, numbers: &[u64]) -> Result<PairList, NoMemory>
     requires marks { length marks.now ≡ length ids.now }
     requires numbers { length numbers.now ≡ length ids.now }
     ensures { IfOk result (λ pairs. pairs
         ≡ map (λ p. record { id = slice_index ids.now p; number = slice_index numbers.now p })
-            (filter (λ p. is_this p (mark_at marks.now p)) (range_with_len 0 (length ids.now)))) }
+        (filter (λ p. is_this p (mark_at marks.now p)) (range_with_len 0 (length ids.now)))) }
 {
     let mut pairs = PairList::new(alloc);
     for place in 0..ids.len() {

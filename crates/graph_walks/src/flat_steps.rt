@@ -35,7 +35,7 @@ impl FlatSteps {
     /// The steps of a list.
     pub fn gather(alloc: Global, list: StepList) -> Result<FlatSteps, NoMemory>
         ensures ids { IfOk result (λ flat. flat.ids ≡ list.ids) }
-        ensures hops { IfOk result (λ flat. (p t : ℕ) → leads flat.hops p t ≡ leads list.hops p t) }
+        ensures steps { IfOk result (λ flat. (i t : ℕ) → leads (steps_of flat) i t ≡ leads (steps_of list) i t) }
     {
         let (places, hops) = list.into_parts();
         let (starts, ends) = rows_of(alloc, places.len(), hops.as_slice())?;

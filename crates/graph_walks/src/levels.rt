@@ -6,13 +6,14 @@ ghost use Rattle.graph_model.specs.Walks.{is_walk_by, least_below};
 ghost use Rattle.graph_walks.specs.Marks.{mark_at};
 ghost use Rattle.graph_walks.specs.Steps.{leads, steps_of};
 
-use crate::{FlatSteps, Marks};
+use crate::FlatSteps;
+use crate::marks::Marks;
 use gdi_kinds::NoMemory;
 use std::alloc::Global;
 use std::mem;
 
 /// Marks each vertex with its level, the least number of steps of a walk to it from `from`, where that is below `bound`.
-pub fn levels_from(
+pub(crate) fn levels_from(
     alloc: Global,
     steps: &FlatSteps,
     from: u64,
@@ -33,12 +34,7 @@ pub fn levels_from(
 }
 
 // The same by places.
-fn levels_at(
-    alloc: Global,
-    steps: &FlatSteps,
-    from: usize,
-    bound: u32,
-) -> Result<Marks, NoMemory>
+fn levels_at(alloc: Global, steps: &FlatSteps, from: usize, bound: u32) -> Result<Marks, NoMemory>
     requires bound { 1 ≤ bound }
     requires from { from < length steps.now.ids }
     ensures len { IfOk result (λ levels. length levels ≡ length steps.now.ids) }
@@ -119,12 +115,7 @@ fn mark_each(
 }
 
 // Marks a place that has no mark, and puts it behind others.
-fn mark_one(
-    place: u32,
-    mark: u32,
-    marks: &mut Marks,
-    next: &mut Vec<u32>,
-) -> Result<(), NoMemory>
+fn mark_one(place: u32, mark: u32, marks: &mut Marks, next: &mut Vec<u32>) -> Result<(), NoMemory>
     requires place { place < length marks.old }
     requires mark { mark < 4294967295 }
     ensures len { length marks.new ≡ length marks.old }

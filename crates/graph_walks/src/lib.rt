@@ -12,8 +12,5 @@ mod step_list;
 
 pub use answers::{hood_of, levels_of, parts_of};
 pub use flat_steps::FlatSteps;
-pub use levels::levels_from;
-pub use marks::Marks;
 pub use places::Places;
-pub use spreading::components;
 pub use step_list::StepList;

@@ -10,7 +10,7 @@ const NONE: u32 = u32::MAX;
 
 /// Numbers below 2^32 - 1 that some places are marked with.
 #[derive(Debug, Drop)]
-pub struct Marks {
+pub(crate) struct Marks {
     // By place.
     marks: Vec<u32>,
 }
@@ -26,7 +26,7 @@ impl Model for Marks {
 
 impl Marks {
     /// None of so many places is marked.
-    pub fn new(alloc: Global, count: usize) -> Result<Marks, NoMemory>
+    pub(crate) fn new(alloc: Global, count: usize) -> Result<Marks, NoMemory>
         ensures len { IfOk result (λ marks. length marks ≡ count) }
         ensures none { IfOk result (λ marks. (j : ℕ) → mark_at marks j ≡ None) }
     {
@@ -35,14 +35,14 @@ impl Marks {
     }
 
     /// How many places there are.
-    pub fn len(&self) -> usize
+    pub(crate) fn len(&self) -> usize
         ensures { result ≡ length self.now }
     {
         self.marks.len()
     }
 
     /// The mark of a place.
-    pub fn get(&self, place: usize) -> Option<u32>
+    pub(crate) fn get(&self, place: usize) -> Option<u32>
         requires { place < length self.now }
         ensures { result ≡ mark_at self.now place }
     {
@@ -51,7 +51,7 @@ impl Marks {
     }
 
     /// Marks a place that has no mark yet, and tells whether it had none.
-    pub fn mark(&mut self, place: usize, mark: u32) -> bool
+    pub(crate) fn mark(&mut self, place: usize, mark: u32) -> bool
         requires place { place < length self.old }
         requires mark { mark < 4294967295 }
         ensures len { length self.new ≡ length self.old }

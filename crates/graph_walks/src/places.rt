@@ -1,6 +1,6 @@
-ghost use Rattle.std.specs.Prelude.{◌≡◌, ℕ, ◌<◌, ◌^◌, false, Some, length, slice_get, IfOk, MatchOption};
+ghost use Rattle.std.specs.Prelude.{◌≡◌, ℕ, ◌<◌, ◌^◌, true, false, Some, length, slice_get, IfOk, MatchOption};
 ghost use Rattle.graph_model.specs.Maps.{has, IsSet};
-ghost use Rattle.graph_walks.specs.Flat.{ArePlaces};
+ghost use Rattle.graph_walks.specs.Flat.{AreConsecutive, ArePlaces};
 
 use gdi_kinds::{NoMemory, NumList};
 use std::alloc::Global;
@@ -17,6 +17,8 @@ pub struct Places {
     // up to the lowest `shift` bits.
     guesses: Vec<u32>,
     shift: u32,
+    // Whether each identifier is the next after the one before: then a place needs no look.
+    consecutive: bool,
 }
 
 impl Model for Places {
@@ -24,11 +26,12 @@ impl Model for Places {
 
     ghost Value = { List ℕ };
 
-    ghost use Rattle.graph_walks.specs.Flat.{ArePlaces};
+    ghost use Rattle.std.specs.Prelude.{◌≡◌, true};
+    ghost use Rattle.graph_walks.specs.Flat.{AreConsecutive, ArePlaces};
 
     ghost view = { λ places. places.ids.items };
 
-    ghost invariant = { λ places. ArePlaces places.ids.items };
+    ghost invariant = { λ places. ArePlaces places.ids.items × (places.consecutive ≡ true → AreConsecutive places.ids.items) };
 }
 
 impl Places {
@@ -42,10 +45,12 @@ impl Places {
         }
         let shift = shift_of(ids.as_slice());
         let guesses = guesses_of(alloc, ids.as_slice(), shift)?;
+        let consecutive = are_consecutive(ids.as_slice());
         Ok(Places {
             ids: ids.into_vec(),
             guesses,
             shift,
+            consecutive,
         })
     }
 
@@ -68,6 +73,9 @@ impl Places {
     pub fn place(&self, id: u64) -> Option<usize>
         ensures { MatchOption result (has self.now id ≡ false) (λ place. slice_get self.now place ≡ Some id) }
     {
+        if self.consecutive {
+            return counted(self.ids.as_slice(), id);
+        }
         if let Some(place) = near(self.ids.as_slice(), id, self.guess(id)) {
             return Some(place);
         }
@@ -81,6 +89,36 @@ impl Places {
             None => 0,
         }
     }
+}
+
+// Whether each of some rising identifiers is the next after the one before.
+fn are_consecutive(ids: &[u64]) -> bool
+    requires { IsSet ids.now }
+    ensures { result ≡ true → AreConsecutive ids.now }
+{
+    if ids.len() == 0 {
+        return false;
+    }
+    let last = ids.len() - 1;
+    ids[last].saturating_sub(ids[0]) == last as u64
+}
+
+// The place of an identifier among such.
+fn counted(ids: &[u64], id: u64) -> Option<usize>
+    requires { AreConsecutive ids.now }
+    ensures { MatchOption result (has ids.now id ≡ false) (λ place. slice_get ids.now place ≡ Some id) }
+{
+    if ids.len() == 0 {
+        return None;
+    }
+    let first = ids[0];
+    if id < first {
+        return None;
+    }
+    if id - first >= ids.len() as u64 {
+        return None;
+    }
+    Some((id - first) as usize)
 }
 
 // The place of an identifier, if it stands close behind a guess.

@@ -4,14 +4,15 @@ ghost use Rattle.graph_walks.specs.Marks.{mark_at};
 ghost use Rattle.graph_walks.specs.Naming.{IsNaming};
 ghost use Rattle.graph_walks.specs.Steps.{IsLeastJoined, IsTwoWay, steps_of};
 
+use crate::FlatSteps;
 use crate::levels::next_front;
-use crate::{FlatSteps, Marks};
+use crate::marks::Marks;
 use gdi_kinds::NoMemory;
 use std::alloc::Global;
 use std::mem;
 
-/// Marks each vertex with the place of the least vertex that a walk joins with it. Each step may be taken back.
-pub fn components(alloc: Global, steps: &FlatSteps) -> Result<Marks, NoMemory>
+/// Marks each place with the place of the least one that a walk joins with it. Each step may be taken back.
+pub(crate) fn components(alloc: Global, steps: &FlatSteps) -> Result<Marks, NoMemory>
     requires { IsTwoWay steps.now.hops }
     ensures len { IfOk result (λ names. length names ≡ length steps.now.ids) }
     ensures names { IfOk result (λ names. (j : ℕ) → j < length steps.now.ids → IsSomeAnd (mark_at names j) (IsLeastJoined steps.now.hops j)) }
@@ -25,12 +26,7 @@ pub fn components(alloc: Global, steps: &FlatSteps) -> Result<Marks, NoMemory>
 }
 
 // Gives the component of a place its name, if it has none yet.
-fn spread(
-    alloc: Global,
-    steps: &FlatSteps,
-    place: usize,
-    names: &mut Marks,
-) -> Result<(), NoMemory>
+fn spread(alloc: Global, steps: &FlatSteps, place: usize, names: &mut Marks) -> Result<(), NoMemory>
     requires place { place < length steps.now.ids }
     requires len { length names.old ≡ length steps.now.ids }
     requires two_way { IsTwoWay steps.now.hops }

@@ -5,11 +5,15 @@ use Rattle.gdi_kinds.specs.declared.pair.Pair.{Pair}
 use Rattle.graph_walks.specs.Marks.{mark_at}
 use Rattle.graph_walks.specs.Reached.{is_this, part_by, parts_by}
 use Rattle.graph_walks.specs.Steps.{steps_of}
+use Rattle.graph_walks.proofs.Renaming.{hops_back}
 use Rattle.graph_walks.proofs.Answering.{marked-within, parts-by-place, count-by-place, same_name}
 use Rattle.graph_walks.proofs.answers.parts_of.Goals as goal
 
 pub sizes_of-requires : goal.sizes_of-requires
 sizes_of-requires c = marked-within (length c.args.steps.now.ids) c.args.steps.now.hops c.in_ok-names.names c.in_ok-names.ensures.len c.in_ok-names.ensures.names
+
+pub components-requires : goal.components-requires
+components-requires c = hops_back c.args.steps.now c.len-count.ensures.places.rises c.len-count.ensures.within c.requires
 
 pub returns : goal.returns
 returns c = λ name are.

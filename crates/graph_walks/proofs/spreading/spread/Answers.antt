@@ -34,8 +34,8 @@ loop-next-init c =
     record {
       len = c.mark.ensures.len;
       spreads = subst (λ (front : List ℕ). IsSpreading c.args.steps.now.hops c.args.place (mark_at c.args.names.now) (mark_at c.mark.new.self) front) (sym c.in_ok-front.ensures.items)
-      (spread-start c.args.steps.now.hops (range_with_len 0 n) c.requires.two_way (into n c.args.steps.now.hops c.len-count.ensures.within) c.args.place (mark_at c.args.names.now) c.args.place (mark_at c.mark.new.self) c.requires.so_far
-      (seen_none (mark_at c.args.names.now c.args.place) (sym c.mark.ensures.free ∙ c.if-not-mark.false)) c.mark.ensures.marks);
+          (spread-start c.args.steps.now.hops (range_with_len 0 n) c.requires.two_way (into n c.args.steps.now.hops c.len-count.ensures.within) c.args.place (mark_at c.args.names.now) c.args.place (mark_at c.mark.new.self) c.requires.so_far
+          (seen_none (mark_at c.args.names.now c.args.place) (sym c.mark.ensures.free ∙ c.if-not-mark.false)) c.mark.ensures.marks);
     }
 
 pub loop-next-preserved : goal.loop-next-preserved
@@ -44,13 +44,13 @@ loop-next-preserved c =
     record {
       len = c.in_ok-next_front.ensures.len ∙ c.loop-next.invariant.len;
       spreads = subst (λ (v : Vec ℕ Global). IsSpreading c.args.steps.now.hops c.args.place (mark_at c.args.names.now) (mark_at c.next_front.new.marks) v.items) (sym c.swap.ensures.x_after)
-      (spread-more c.args.steps.now.hops (range_with_len 0 n) c.requires.two_way (into n c.args.steps.now.hops c.len-count.ensures.within) c.args.place (mark_at c.args.names.now) (mark_at c.loop-next.names)
-      (mark_at c.next_front.new.marks) c.loop-next.front.items c.next_front.new.next.items c.loop-next.invariant.spreads
-      (λ j. c.in_ok-next_front.ensures.marks j
-      ∙ ap (λ (vs : List ℕ). option_or (mark_at c.loop-next.names j) (if list_any (λ x. leads c.args.steps.now.hops x j) vs then Some c.args.place else None)) c.deref.ensures.value)
-      (λ j. c.in_ok-next_front.ensures.next j
-      ∙ from_none c.clear.new.self.items j (is_none (mark_at c.loop-next.names j) && list_any (λ x. leads c.args.steps.now.hops x j) c.deref.result.now) c.clear.ensures.items
-      ∙ ap (λ (vs : List ℕ). is_none (mark_at c.loop-next.names j) && list_any (λ x. leads c.args.steps.now.hops x j) vs) c.deref.ensures.value));
+          (spread-more c.args.steps.now.hops (range_with_len 0 n) c.requires.two_way (into n c.args.steps.now.hops c.len-count.ensures.within) c.args.place (mark_at c.args.names.now) (mark_at c.loop-next.names)
+          (mark_at c.next_front.new.marks) c.loop-next.front.items c.next_front.new.next.items c.loop-next.invariant.spreads
+          (λ j. c.in_ok-next_front.ensures.marks j
+          ∙ ap (λ (vs : List ℕ). option_or (mark_at c.loop-next.names j) (if list_any (λ x. leads c.args.steps.now.hops x j) vs then Some c.args.place else None)) c.deref.ensures.value)
+          (λ j. c.in_ok-next_front.ensures.next j
+          ∙ from_none c.clear.new.self.items j (is_none (mark_at c.loop-next.names j) && list_any (λ x. leads c.args.steps.now.hops x j) c.deref.result.now) c.clear.ensures.items
+          ∙ ap (λ (vs : List ℕ). is_none (mark_at c.loop-next.names j) && list_any (λ x. leads c.args.steps.now.hops x j) vs) c.deref.ensures.value));
     }
 
 pub loop-next-smaller : goal.loop-next-smaller

@@ -41,9 +41,9 @@ returns-clause-within c = λ t there.
     let first = get_or_read c.self.inside.starts.items c.args.place c.index.result.now (omega (arith, below, c.self.invariant.full)) c.index.ensures 0 in
     let next = get_or_read c.self.inside.starts.items (c.args.place + 1) c.index-2.result.now (omega (arith, below, c.self.invariant.full)) c.index-2.ensures 0 in
     let led =
-        sym (row_is (length c.self.inside.places) c.self.inside.starts.items c.self.inside.ends.items c.self.invariant c.args.place t below)
-        ∙ sym (ap (λ (b : ℕ). has (slice_range c.self.inside.ends.items (get_or c.self.inside.starts.items c.args.place 0) b) t) next)
-        ∙ sym (ap (λ (a : ℕ). has (slice_range c.self.inside.ends.items a c.index-2.result.now) t) first)
-        ∙ sym (ap (λ (es : List ℕ). has (slice_range es c.index.result.now c.index-2.result.now) t) c.as_slice.ensures.value)
-        ∙ there in
+    sym (row_is (length c.self.inside.places) c.self.inside.starts.items c.self.inside.ends.items c.self.invariant c.args.place t below)
+    ∙ sym (ap (λ (b : ℕ). has (slice_range c.self.inside.ends.items (get_or c.self.inside.starts.items c.args.place 0) b) t) next)
+    ∙ sym (ap (λ (a : ℕ). has (slice_range c.self.inside.ends.items a c.index-2.result.now) t) first)
+    ∙ sym (ap (λ (es : List ℕ). has (slice_range es c.index.result.now c.index-2.result.now) t) c.as_slice.ensures.value)
+    ∙ there in
     subst (λ (h : Hops). t < length h.ids) c.self.view_is (rows-within (length c.self.inside.places) c.self.inside.starts.items c.self.inside.ends.items c.self.invariant c.args.place t led).1
