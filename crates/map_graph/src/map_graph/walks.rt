@@ -53,9 +53,16 @@ impl MapGraph {
         requires { IsWellFormed self.now.graph }
         ensures { IfOk result (λ places. places ≡ keys self.now.graph.vertices) }
     {
-        let ids = NumList::from_vec(self.vertices.keys().copied().collect(self.alloc())?);
+        let ids = self.ids()?;
         let places = Places::new(self.alloc(), ids)?;
         Ok(places)
+    }
+
+    // The vertices, rising.
+    fn ids(&self) -> Result<NumList, NoMemory>
+        ensures { IfOk result (λ ids. ids ≡ keys self.now.graph.vertices) }
+    {
+        Ok(NumList::from_vec(self.vertices.keys().copied().collect(self.alloc())?))
     }
 
     // The steps that the edges allow.
