@@ -1,20 +1,19 @@
 -- Lists by place are lists by vertex.
 use Rattle.std.proofs.Common.{◌≡◌, ℕ, zero, suc, ◌+◌, ◌<◌, ◌≤◌, Bool, true, false, cond, ◌&&◌, List, [], ◌∷◌, ◌++◌, length, get_or, set, map, Option, Some, None, is_some, inl, inr, if◌then◌else◌, refl, sym, ap, subst, ◌∙◌, arith}
-use Rattle.std.specs.Prelude.{◌==◌, IsSomeAnd, count_by, nat_le, nat_lt}
+use Rattle.std.specs.Prelude.{◌==◌, IsSomeAnd, count_by, nat_lt}
 use Rattle.std.specs.List.{filter, filter_map, range_with_len}
 use Rattle.std.specs.Option.{option_to_list, option_map, option_map_or, option_or}
 use Rattle.std.proofs.lemmas.Bool.{cases_eq, cases_lt, eqb-true, eq-eqb, ne_eqb, le-ltb}
-use Rattle.std.proofs.lemmas.List.{append_assoc, append-nil, map-append, map-id, get_or_past, get_or-set_same, get_or-set_other}
+use Rattle.std.proofs.lemmas.List.{map-append, map-id, get_or_past, get_or-set_same, get_or-set_other}
 use Rattle.std.proofs.lemmas.List.Elements.{filter-append, filter_map-append}
 use Rattle.std.proofs.lemmas.List.FromFn.{fill_by_all, length-range_with_len}
 use Rattle.std.proofs.lemmas.List.Sums.{sum_by-append, sum_by-cons, count_by-le-length}
 use Rattle.gdi_kinds.specs.declared.pair.Pair.{Pair}
-use Rattle.graph_model.specs.Maps.{has}
-use Rattle.graph_model.specs.Walks.{is_walk_by, least_below}
-use Rattle.graph_model.proofs.Entries.{same_value, nothing, never}
+use Rattle.graph_model.specs.Walks.{least_below}
+use Rattle.graph_model.proofs.Entries.{nothing}
 use Rattle.graph_walks.specs.Flat.{AreMarkedWithin}
 use Rattle.graph_walks.specs.Marks.{mark_at}
-use Rattle.graph_walks.specs.Reached.{level_by, pair_if, is_within, is_this, part_by, parts_by, AreNames}
+use Rattle.graph_walks.specs.Reached.{is_within, is_this, AreNames}
 use Rattle.graph_walks.specs.Steps.{Hops, leads, steps_of, Rises, IsLeastJoined}
 use Rattle.graph_walks.proofs.Bools.{same_tests}
 use Rattle.graph_walks.proofs.Finding.{place-has}

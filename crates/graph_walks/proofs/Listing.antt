@@ -3,7 +3,7 @@ use Rattle.std.proofs.Common.{◌≡◌, ℕ, Bool, true, ◌&&◌, List, [], �
 use Rattle.std.specs.List.{slice_get}
 use Rattle.std.proofs.lemmas.List.{map_push}
 use Rattle.graph_model.specs.Maps.{has}
-use Rattle.graph_walks.specs.Steps.{Hops, steps_of}
+use Rattle.graph_walks.specs.Steps.{steps_of}
 use Rattle.graph_walks.proofs.Finding.{got, place-has}
 
 pub step_added : (ids : List ℕ) (hops more : List (ℕ × ℕ)) (from to a b : ℕ) → slice_get ids a ≡ Some from → slice_get ids b ≡ Some to → more ≡ hops ++ (a, b) ∷ []

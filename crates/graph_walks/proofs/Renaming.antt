@@ -1,5 +1,5 @@
 -- Walks by place are walks from vertex to vertex.
-use Rattle.std.proofs.Common.{◌≡◌, ℕ, zero, suc, ◌+◌, ◌<◌, ◌≤◌, Bool, true, false, ◌&&◌, List, [], ◌∷◌, length, get_or, map, Option, Some, None, inl, inr, refl, sym, ap, subst, ◌∙◌, arith}
+use Rattle.std.proofs.Common.{◌≡◌, ℕ, zero, suc, ◌+◌, ◌<◌, ◌≤◌, Bool, true, false, ◌&&◌, List, [], ◌∷◌, length, get_or, map, Option, Some, None, inl, inr, refl, sym, ap, ◌∙◌, arith}
 use Rattle.std.specs.Prelude.{◌==◌}
 use Rattle.std.specs.List.{AllByRecursion, range_with_len, slice_get}
 use Rattle.std.proofs.lemmas.Bool.{cases_order, or_cases, or_left, or_right, and_parts, and_from, eqb-true, eq-eqb, false_from_ne_true, true≢false}
@@ -9,7 +9,7 @@ use Rattle.graph_model.proofs.Entries.{never}
 use Rattle.graph_model.proofs.Levels.{walking}
 use Rattle.graph_walks.specs.Steps.{Hops, leads, steps_of, Rises, LeadsInto, IsLeastJoined}
 use Rattle.graph_walks.proofs.Bools.{same_tests}
-use Rattle.graph_walks.proofs.Finding.{has-place, place-has}
+use Rattle.graph_walks.proofs.Finding.{place-has}
 use Rattle.graph_walks.proofs.Fronts.{least-is_none}
 
 module _ (ids : List ℕ) where

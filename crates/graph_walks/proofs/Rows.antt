@@ -1,5 +1,5 @@
 -- Flat rows: which hops they have.
-use Rattle.std.proofs.Common.{◌≡◌, ℕ, zero, suc, ◌+◌, ◌-◌, ◌<◌, ◌≤◌, Bool, true, false, ◌&&◌, ◌||◌, List, [], ◌∷◌, ◌++◌, length, get_or, take, drop, map, inl, inr, refl, sym, ap, subst, ◌∙◌, arith}
+use Rattle.std.proofs.Common.{◌≡◌, ℕ, zero, suc, ◌+◌, ◌-◌, ◌<◌, ◌≤◌, true, false, ◌&&◌, ◌||◌, List, [], ◌∷◌, ◌++◌, length, get_or, take, drop, map, inl, inr, refl, sym, ap, ◌∙◌, arith}
 use Rattle.std.specs.Prelude.{◌==◌}
 use Rattle.std.specs.List.{flat_map, range_with_len, slice_range}
 use Rattle.std.proofs.lemmas.Bool.{false_from_ne_true, cases_lt, or_cases, or_left, or_right, and_parts, and_from, eqb-true, eq-eqb}
@@ -9,7 +9,7 @@ use Rattle.graph_model.specs.Maps.{has}
 use Rattle.graph_model.proofs.Entries.{never}
 use Rattle.graph_walks.specs.Steps.{leads, row_at, hops_of}
 use Rattle.graph_walks.specs.Flat.{AreRows, AreWithin}
-use Rattle.graph_walks.specs.Filling.{count_from, count_below, IsFilled}
+use Rattle.graph_walks.specs.Filling.{count_below, IsFilled}
 use Rattle.graph_walks.proofs.Bools.{same_tests}
 use Rattle.graph_walks.proofs.Finding.{has-place, place-has}
 use Rattle.graph_walks.proofs.Filling.{below-more, none-below, below-rises, few-below}

@@ -1,11 +1,10 @@
 -- What walks tell of vertices, as answers have it.
-use Rattle.std.specs.Prelude.{◌≡◌, ℕ, Bool, false, List, Option, map, count_by, nat_le, slice_index, IsTrue, ◌==◌}
-use Rattle.std.specs.List.{filter, range_with_len}
+use Rattle.std.specs.Prelude.{ℕ, Bool, false, List, Option, map, count_by, nat_le, IsTrue, ◌==◌}
+use Rattle.std.specs.List.{filter}
 use Rattle.std.specs.Option.{option_map, option_map_or}
 use Rattle.gdi_kinds.specs.declared.pair.Pair.{Pair}
 use Rattle.graph_model.specs.Maps.{has}
 use Rattle.graph_model.specs.Walks.{is_walk_by, least_below}
-use Rattle.graph_walks.specs.Marks.{mark_at}
 use Rattle.graph_walks.specs.Steps.{IsLeastJoined}
 
 -- the least number of steps of a walk from i to j, below a bound

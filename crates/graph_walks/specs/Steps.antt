@@ -1,6 +1,6 @@
 -- Steps from vertex to vertex, and what walks over them reach.
-use Rattle.std.specs.Prelude.{◌≡◌, ℕ, ◌+◌, ◌<◌, ◌≤◌, Bool, ◌&&◌, List, Option, None, map, length, slice_index, slice_range, IsTrue, ◌==◌}
-use Rattle.std.specs.List.{list_any, flat_map, range_with_len, slice_index_or}
+use Rattle.std.specs.Prelude.{ℕ, ◌+◌, ◌<◌, ◌≤◌, Bool, ◌&&◌, List, map, length, slice_index, slice_range, IsTrue, ◌==◌}
+use Rattle.std.specs.List.{list_any, flat_map, range_with_len}
 use Rattle.graph_model.specs.Maps.{has}
 use Rattle.graph_model.specs.Walks.{is_walk_by}
 

@@ -1,6 +1,5 @@
-use Rattle.std.proofs.Common.{◌≡◌, ℕ, ◌<◌, List, Option, length, get_or, ap, sym, ◌∙◌}
+use Rattle.std.proofs.Common.{ℕ, List, length, get_or, ap, ◌∙◌}
 use Rattle.std.specs.List.{filter_map, range_with_len}
-use Rattle.gdi_kinds.specs.declared.pair.Pair.{Pair}
 use Rattle.graph_walks.specs.Marks.{mark_at}
 use Rattle.graph_walks.specs.Reached.{pair_if, level_by}
 use Rattle.graph_walks.specs.Steps.{steps_of}

@@ -1,10 +1,9 @@
-use Rattle.std.proofs.Common.{◌≡◌, ℕ, ◌<◌, Bool, List, Option, length, get_or, map, ap, sym, subst, ◌∙◌, arith}
+use Rattle.std.proofs.Common.{ℕ, List, length, get_or, map, ap, ◌∙◌, arith}
 use Rattle.std.specs.Prelude.{◌==◌, count_by}
 use Rattle.std.specs.List.{filter, range_with_len}
 use Rattle.gdi_kinds.specs.declared.pair.Pair.{Pair}
 use Rattle.graph_walks.specs.Marks.{mark_at}
-use Rattle.graph_walks.specs.Reached.{is_this, part_by, parts_by}
-use Rattle.graph_walks.specs.Steps.{steps_of}
+use Rattle.graph_walks.specs.Reached.{is_this, part_by}
 use Rattle.graph_walks.proofs.Renaming.{hops_back}
 use Rattle.graph_walks.proofs.Answering.{marked-within, parts-by-place, count-by-place, same_name}
 use Rattle.graph_walks.proofs.answers.parts_of.Goals as goal

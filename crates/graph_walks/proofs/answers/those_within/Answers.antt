@@ -1,4 +1,4 @@
-use Rattle.std.proofs.Common.{◌≡◌, ℕ, ◌++◌, ◌∷◌, [], List, Bool, get_or, map, if◌then◌else◌, ap, sym, ◌∙◌}
+use Rattle.std.proofs.Common.{ℕ, ◌++◌, ◌∷◌, [], Bool, get_or, map, if◌then◌else◌, ap, sym, ◌∙◌}
 use Rattle.std.specs.List.{filter, range_with_len}
 use Rattle.graph_walks.specs.Marks.{mark_at}
 use Rattle.graph_walks.specs.Reached.{is_within}

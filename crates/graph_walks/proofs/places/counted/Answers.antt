@@ -1,4 +1,4 @@
-use Rattle.std.proofs.Common.{◌≡◌, ℕ, ◌+◌, ◌-◌, ◌<◌, ◌≤◌, length, get_or, Some, ap, sym, ◌∙◌, arith}
+use Rattle.std.proofs.Common.{◌≡◌, ◌+◌, ◌-◌, get_or, Some, ap, ◌∙◌, arith}
 use Rattle.graph_walks.proofs.Finding.{absent, get-at}
 use Rattle.graph_walks.proofs.places.counted.Goals as goal
 

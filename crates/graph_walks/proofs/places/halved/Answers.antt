@@ -1,4 +1,4 @@
-use Rattle.std.proofs.Common.{◌≡◌, ℕ, Some, ap, ◌∙◌, ◌<◌, ◌≤◌, length, get_or, arith}
+use Rattle.std.proofs.Common.{◌≡◌, Some, ap, ◌∙◌, get_or, arith}
 use Rattle.graph_walks.proofs.Finding.{all_below, passed_over, get-at}
 use Rattle.graph_walks.proofs.places.halved.Goals as goal
 

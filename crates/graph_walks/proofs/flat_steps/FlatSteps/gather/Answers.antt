@@ -1,4 +1,4 @@
-use Rattle.std.proofs.Common.{◌≡◌, ℕ, List, length, ap, sym, ◌∙◌}
+use Rattle.std.proofs.Common.{ℕ, List, length, ap, sym, ◌∙◌}
 use Rattle.graph_walks.specs.Steps.{Hops, leads, steps_of, hops_of}
 use Rattle.graph_walks.proofs.Renaming.{same_steps}
 use Rattle.graph_walks.proofs.flat_steps.FlatSteps.gather.Goals as goal

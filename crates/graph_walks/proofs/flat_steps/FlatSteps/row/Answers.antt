@@ -1,9 +1,8 @@
-use Rattle.std.proofs.Common.{◌≡◌, ℕ, ◌+◌, ◌<◌, ◌≤◌, List, length, get_or, false, sym, subst, ap, ◌∙◌, arith}
-use Rattle.std.specs.Prelude.{IsTrue}
+use Rattle.std.proofs.Common.{ℕ, ◌+◌, ◌<◌, List, length, get_or, sym, subst, ap, ◌∙◌, arith}
 use Rattle.std.specs.List.{slice_range}
 use Rattle.std.proofs.lemmas.List.{get_or_read}
 use Rattle.graph_model.specs.Maps.{has}
-use Rattle.graph_walks.specs.Steps.{Hops, leads, row_at}
+use Rattle.graph_walks.specs.Steps.{Hops, leads}
 use Rattle.graph_walks.proofs.Rows.{row_is, no_row, rows-within}
 use Rattle.graph_walks.proofs.flat_steps.FlatSteps.row.Goals as goal
 

@@ -1,4 +1,4 @@
-use Rattle.std.proofs.Common.{◌≡◌, ◌<◌, ◌^◌, length, true, sym, ap, subst, arith}
+use Rattle.std.proofs.Common.{length, sym, ap, subst, arith}
 use Rattle.graph_walks.specs.Flat.{AreConsecutive}
 use Rattle.graph_walks.specs.Steps.{Rises}
 use Rattle.graph_walks.proofs.Finding.{set-rises}

@@ -1,4 +1,4 @@
-use Rattle.std.proofs.Common.{◌≡◌, ℕ, ◌&&◌, List, [], ◌∷◌, ◌++◌, if◌then◌else◌, subst}
+use Rattle.std.proofs.Common.{◌≡◌, ◌&&◌, [], ◌∷◌, ◌++◌, if◌then◌else◌, subst}
 use Rattle.graph_model.specs.Maps.{has}
 use Rattle.graph_walks.specs.Steps.{Hops, steps_of}
 use Rattle.graph_walks.proofs.Listing.{step_added}

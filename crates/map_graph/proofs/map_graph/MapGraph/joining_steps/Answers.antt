@@ -23,11 +23,11 @@ loop-key-preserved c = record {
   ids = c.in_ok-add_both_ways.ensures.ids ∙ c.loop-key.invariant.ids;
   ends = (subst (AllByRecursion (EndsAreIn (keys c.args.self.now.graph.vertices))) c.in-Some.ensures.steps c.loop-key.invariant.ends).1;
   steps =
-    steps_more both_over (steps_of c.loop-key.steps) (steps_of c.add_both_ways.new.steps) (flat_map both_over c.args.self.now.graph.edges) c.loop-key.key-iterator c.next.new.self (c.in-Some.key.now, c.in-Some.edge.now) c.in-Some.ensures.steps
-    (c.in_ok-add_both_ways.ensures.steps
-    ∙ ap (λ s. steps_of c.loop-key.steps ++ both_ways s c.target.result) c.source.ensures
-    ∙ ap (λ s. steps_of c.loop-key.steps ++ both_ways c.in-Some.key.now.source s) c.target.ensures)
-    c.loop-key.invariant.steps;
+      steps_more both_over (steps_of c.loop-key.steps) (steps_of c.add_both_ways.new.steps) (flat_map both_over c.args.self.now.graph.edges) c.loop-key.key-iterator c.next.new.self (c.in-Some.key.now, c.in-Some.edge.now) c.in-Some.ensures.steps
+      (c.in_ok-add_both_ways.ensures.steps
+      ∙ ap (λ s. steps_of c.loop-key.steps ++ both_ways s c.target.result) c.source.ensures
+      ∙ ap (λ s. steps_of c.loop-key.steps ++ both_ways c.in-Some.key.now.source s) c.target.ensures)
+      c.loop-key.invariant.steps;
 }
 
 pub returns-clause-steps : goal.returns-clause-steps

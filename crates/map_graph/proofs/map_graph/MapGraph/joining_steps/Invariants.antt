@@ -1,7 +1,6 @@
 use Rattle.std.proofs.Common.{◌≡◌, ◌++◌}
 use Rattle.std.specs.List.{AllByRecursion, flat_map}
 use Rattle.graph_model.specs.Maps.{keys}
-
 use Rattle.graph_walks.specs.Steps.{steps_of}
 use Rattle.map_graph.proofs.Steps.{EndsAreIn, both_over}
 use Rattle.map_graph.proofs.map_graph.MapGraph.joining_steps.Given as goal

@@ -23,8 +23,8 @@ loop-key-preserved c = record {
   ids = c.in_ok-add_steps.ensures.ids ∙ c.loop-key.invariant.ids;
   ends = (subst (AllByRecursion (EndsAreIn (keys c.args.self.now.graph.vertices))) c.in-Some.ensures.steps c.loop-key.invariant.ends).1;
   steps =
-    steps_more steps_over (steps_of c.loop-key.steps) (steps_of c.add_steps.new.steps) (flat_map steps_over c.args.self.now.graph.edges) c.loop-key.key-iterator c.next.new.self (c.in-Some.key.now, c.in-Some.edge.now) c.in-Some.ensures.steps
-    c.in_ok-add_steps.ensures.steps c.loop-key.invariant.steps;
+      steps_more steps_over (steps_of c.loop-key.steps) (steps_of c.add_steps.new.steps) (flat_map steps_over c.args.self.now.graph.edges) c.loop-key.key-iterator c.next.new.self (c.in-Some.key.now, c.in-Some.edge.now) c.in-Some.ensures.steps
+      c.in_ok-add_steps.ensures.steps c.loop-key.invariant.steps;
 }
 
 pub returns-clause-steps : goal.returns-clause-steps
