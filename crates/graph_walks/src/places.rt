@@ -55,6 +55,7 @@ impl Places {
     }
 
     /// How many vertices there are.
+    #[inline]
     pub fn len(&self) -> usize
         ensures value { result ≡ length self.now }
         ensures places { ArePlaces self.now }
@@ -70,6 +71,7 @@ impl Places {
     }
 
     /// The place of a vertex, if it is there.
+    #[inline]
     pub fn place(&self, id: u64) -> Option<usize>
         ensures { MatchOption result (has self.now id ≡ false) (λ place. slice_get self.now place ≡ Some id) }
     {
@@ -104,6 +106,7 @@ fn are_consecutive(ids: &[u64]) -> bool
 }
 
 // The place of an identifier among such.
+#[inline(always)]
 fn counted(ids: &[u64], id: u64) -> Option<usize>
     requires { AreConsecutive ids.now }
     ensures { MatchOption result (has ids.now id ≡ false) (λ place. slice_get ids.now place ≡ Some id) }

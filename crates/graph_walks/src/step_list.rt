@@ -41,6 +41,7 @@ impl StepList {
     }
 
     /// Adds a step, if both its ends are among the vertices.
+    #[inline]
     pub fn add(&mut self, from: u64, to: u64) -> Result<(), NoMemory>
         ensures ids { OnOk result (self.new.ids ≡ self.old.ids) }
         ensures steps { OnOk result (steps_of self.new

@@ -1,21 +1,18 @@
 -- Walks by the steps of rows are those of the graph.
-use Rattle.std.proofs.Common.{◌≡◌, ℕ, zero, suc, ◌+◌, ◌-◌, ◌<◌, ◌≤◌, Bool, true, false, cond, ◌&&◌, ◌||◌, List, [], ◌∷◌, ◌++◌, length, Option, Some, None, is_some, if◌then◌else◌, refl, sym, ap, ◌∙◌, arith}
+use Rattle.std.proofs.Common.{◌≡◌, ℕ, zero, suc, ◌<◌, Bool, true, false, cond, ◌&&◌, ◌||◌, List, [], ◌∷◌, ◌++◌, Option, Some, None, is_some, if◌then◌else◌, refl, sym, ap, ◌∙◌, arith}
 use Rattle.std.specs.Prelude.{◌==◌, IsSome, nat_le, nat_lt, count_by}
 use Rattle.std.specs.List.{AllByRecursion, flat_map, filter}
 use Rattle.std.specs.Option.{option_map_or, option_or}
-use Rattle.std.proofs.lemmas.Bool.{and_parts, and_from, or_cases, or_left, or_right, eqb-true, eq-eqb}
-use Rattle.std.proofs.lemmas.Bool.Decides.{nat_tests}
+use Rattle.std.proofs.lemmas.Bool.{or_left, or_right, eq-eqb}
 use Rattle.std.proofs.lemmas.List.{append_assoc}
-use Rattle.std.proofs.lemmas.List.Folds.{list_any-append}
 use Rattle.std.proofs.lemmas.List.Sums.{sum_by-cons}
-use Rattle.graph_model.specs.Maps.{Map, keys, has, at}
+use Rattle.graph_model.specs.Maps.{Map, keys, has}
 use Rattle.graph_model.specs.Graph.{Graph, Vertex, Edge, EdgeKey, vertex_at}
 use Rattle.graph_model.specs.WellFormed.{IsWellFormed}
 use Rattle.graph_model.specs.Walks.{both_ways, steps_over, graph_steps, joining_steps, is_walk_by, component_of, least_below}
-use Rattle.graph_model.proofs.Entries.{nothing, never}
-use Rattle.graph_model.proofs.Levels.{EndsAreThere, walking, led-there, steps-there, listed}
-use Rattle.graph_model.proofs.Components.{component_least, vertex_component}
-use Rattle.graph_walks.specs.Steps.{leads, IsTwoWay, LeadsInto, IsLeastJoined}
+use Rattle.graph_model.proofs.Levels.{EndsAreThere, walking, listed}
+use Rattle.graph_model.proofs.Components.{component_least}
+use Rattle.graph_walks.specs.Steps.{leads, IsTwoWay, IsLeastJoined}
 use Rattle.graph_walks.proofs.Bools.{same_tests}
 
 -- ---- the same steps, the same walks

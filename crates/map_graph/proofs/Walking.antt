@@ -1,6 +1,6 @@
 -- What the calls that walk answer.
-use Rattle.std.proofs.Common.{◌≡◌, ℕ, ◌+◌, ◌<◌, Bool, true, false, List, [], ◌∷◌, length, map, Option, Some, None, is_some, if◌then◌else◌, refl, sym, ap, subst, ◌∙◌, arith}
-use Rattle.std.specs.Prelude.{◌==◌, IsSome, IsSomeAnd, nat_le, nat_lt, count_by, unwrap_or}
+use Rattle.std.proofs.Common.{◌≡◌, ℕ, ◌<◌, true, false, List, [], ◌∷◌, length, map, Option, Some, None, is_some, refl, sym, ap, subst, ◌∙◌, arith}
+use Rattle.std.specs.Prelude.{◌==◌, IsSome, count_by, unwrap_or}
 use Rattle.std.specs.List.{AllByRecursion, list_any, filter, filter_map}
 use Rattle.std.specs.Option.{option_map, option_map_or}
 use Rattle.std.specs.Ordering.{nat_cmp, is_lt}
@@ -11,7 +11,7 @@ use Rattle.gdi_kinds.specs.declared.pair.Pair.{Pair}
 use Rattle.gdi_kinds.specs.declared.call.Call.TheVariants as call
 use Rattle.gdi_kinds.specs.declared.reply.Reply.TheVariants as reply
 use Rattle.rma_layout.specs.Shape.{Shape}
-use Rattle.graph_model.specs.Maps.{Map, IsMap, IsSet, keys, has, at}
+use Rattle.graph_model.specs.Maps.{Map, IsMap, IsSet, keys, has}
 use Rattle.graph_model.specs.Graph.{Graph, Vertex, vertex_at, is_vertex}
 use Rattle.graph_model.specs.WellFormed.{IsWellFormed}
 use Rattle.graph_model.specs.Walks.{graph_steps, joining_steps, is_walk_by, level_of, component_of, least_below}

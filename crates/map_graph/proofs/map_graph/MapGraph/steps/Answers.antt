@@ -1,8 +1,7 @@
-use Rattle.std.proofs.Common.{◌++◌, ℕ, List, sym, ap, subst, ◌∙◌}
+use Rattle.std.proofs.Common.{◌++◌, sym, ap, subst, ◌∙◌}
 use Rattle.std.specs.List.{AllByRecursion, flat_map}
 use Rattle.std.proofs.lemmas.List.{append-nil}
-use Rattle.graph_model.specs.Maps.{Map, keys}
-use Rattle.graph_model.specs.Graph.{Edge, EdgeKey}
+use Rattle.graph_model.specs.Maps.{keys}
 use Rattle.graph_model.specs.Walks.{steps_over}
 use Rattle.graph_walks.specs.Steps.{Hops, leads, steps_of}
 use Rattle.map_graph.specs.Plain.{Plain}
