@@ -1,7 +1,8 @@
 -- Tests, and options with tests.
-use Rattle.std.proofs.Common.{◌≡◌, ℕ, Bool, true, false, ◌&&◌, ◌||◌, Option, Some, None, if◌then◌else◌, refl, sym, ap, ◌∙◌, eqb}
+use Rattle.std.proofs.Common.{◌≡◌, ℕ, Bool, true, false, ◌&&◌, ◌||◌, List, [], Option, Some, None, is_some, if◌then◌else◌, refl, sym, ap, ◌∙◌, eqb, true≢false}
 use Rattle.std.specs.Prelude.{is_none}
 use Rattle.std.specs.Option.{option_or}
+use Rattle.graph_model.specs.Maps.{has}
 use Rattle.std.proofs.lemmas.Bool.{eqb-true}
 
 pub or-false : (x : Bool) → (x || false) ≡ x
@@ -64,3 +65,20 @@ at_one p id j b is =
       | true ↦ λ same. ap (λ x. x && true) (ap p (sym (eqb-true id j same)) ∙ sym is)
       | false ↦ λ _. and-false (p j) ∙ sym (and-false b)
     ] refl
+
+pub same_tests : (a b : Bool) → (a ≡ true → b ≡ true) → (b ≡ true → a ≡ true) → a ≡ b
+same_tests true b f g = sym (f refl)
+same_tests false true f g = g refl
+same_tests false false f g = refl
+
+pub seen_some : (o : Option ℕ) → is_none o ≡ false → is_some o ≡ true
+seen_some None wrong = absurd (true≢false wrong)
+seen_some (Some m) there = refl
+
+pub seen_none : (o : Option ℕ) → is_none o ≡ true → o ≡ None
+seen_none None there = refl
+seen_none (Some m) wrong = absurd (true≢false (sym wrong))
+
+-- what comes behind none
+pub from_none : (xs : List ℕ) (j : ℕ) (b : Bool) → xs ≡ [] → (has xs j || b) ≡ b
+from_none xs j b is = ap (λ ys. has ys j || b) is

@@ -1,23 +1,18 @@
 -- Levels by fronts: a front has the vertices of one level.
-use Rattle.std.proofs.Common.{◌≡◌, ℕ, zero, suc, ◌+◌, ◌<◌, ◌≤◌, Bool, true, false, ◌&&◌, ◌||◌, List, [], ◌∷◌, Some, None, is_some, inl, inr, if◌then◌else◌, refl, sym, ap, subst, ◌∙◌, arith, true≢false}
+use Rattle.std.proofs.Common.{◌≡◌, ℕ, zero, suc, ◌+◌, ◌<◌, ◌≤◌, Bool, true, false, ◌&&◌, ◌||◌, List, [], ◌∷◌, Option, Some, None, is_some, inl, inr, if◌then◌else◌, refl, sym, ap, subst, ◌∙◌, arith, true≢false}
 use Rattle.std.specs.Prelude as prelude
 use Rattle.std.specs.Prelude.{◌==◌, is_none, IsSome}
 use Rattle.std.specs.List.{list_any, range_with_len}
 use Rattle.std.specs.Option.{option_or}
 use Rattle.std.proofs.lemmas.Bool.{and_parts, and_from, or_cases, or_left, or_right, eqb-true, false_from_ne_true}
-use Rattle.graph_model.specs.Maps.{Map, at, has}
+use Rattle.graph_model.specs.Maps.{has}
 use Rattle.graph_model.specs.Walks.{is_walk_by, least_below}
 use Rattle.graph_model.proofs.Entries.{same_value, nothing, never}
 use Rattle.graph_model.proofs.Short.{find-in_range}
 use Rattle.graph_model.proofs.Shortest.{IsWalking}
 use Rattle.graph_model.proofs.Levels.{walking}
 use Rattle.graph_walks.specs.Steps.{leads}
-use Rattle.graph_walks.proofs.Bools.{and-false}
-
-pub same_tests : (a b : Bool) → (a ≡ true → b ≡ true) → (b ≡ true → a ≡ true) → a ≡ b
-same_tests true b f g = sym (f refl)
-same_tests false true f g = g refl
-same_tests false false f g = refl
+use Rattle.graph_walks.proofs.Bools.{and-false, same_tests}
 
 pub any_some : (p : ℕ → Bool) (ks : List ℕ) → list_any p ks ≡ true → (v : ℕ) × (has ks v ≡ true) × (p v ≡ true)
 any_some p [] some = never some
@@ -67,7 +62,7 @@ pub least-none : (p : ℕ → Bool) (n : ℕ) → least_below p n ≡ None → (
 least-none p n none m below =
     false_from_ne_true (p m) (λ passes. true≢false (sym (find-in_range p 0 n m (omega arith) (omega (arith, below)) passes) ∙ ap is_some none))
 
-least-is_none : (p : ℕ → Bool) (n : ℕ) → ((m : ℕ) → m < n → p m ≡ false) → is_none (least_below p n) ≡ true
+pub least-is_none : (p : ℕ → Bool) (n : ℕ) → ((m : ℕ) → m < n → p m ≡ false) → is_none (least_below p n) ≡ true
 least-is_none p n fails =
     elim (least_below p n) as (λ o. least_below p n ≡ o → is_none o ≡ true) [
       | None ↦ λ _. refl
@@ -100,8 +95,8 @@ module _ (steps : List (ℕ × ℕ)) where
     abbrev pub IsFront : ℕ → List ℕ → Type 0
     IsFront k front = (x : ℕ) → has front x ≡ (walked x k && is_none (least_below (walked x) k))
 
-    abbrev pub AreLevels : ℕ → Map ℕ ℕ → Type 0
-    AreLevels bound levels = (j : ℕ) → at levels j ≡ least_below (walked j) bound
+    abbrev pub AreLevels : ℕ → (ℕ → Option ℕ) → Type 0
+    AreLevels bound levels = (j : ℕ) → levels j ≡ least_below (walked j) bound
 
     module _ (k : ℕ) (front : List ℕ) (is_front : IsFront k front) where
       reaches : (j : ℕ) → least_below (walked j) (suc k) ≡ None → list_any (λ v. leads steps v j) front ≡ walked j (suc k)
@@ -116,8 +111,8 @@ module _ (steps : List (ℕ × ℕ)) where
           true≢false (sym (more_step m from x.0 j near x.2) ∙ least-none (walked j) (suc k) none (suc m) (omega (arith, below))))) in
           any_has (λ v. leads steps v j) front x.0 (is_front x.0 ∙ and_from _ _ x.1 far) x.2)
 
-      module _ (levels more : Map ℕ ℕ) (are : AreLevels (suc k) levels) where
-        pub levels-more : ((j : ℕ) → at more j ≡ option_or (at levels j) (if list_any (λ v. leads steps v j) front then Some (suc k) else None)) → AreLevels (suc (suc k)) more
+      module _ (levels more : ℕ → Option ℕ) (are : AreLevels (suc k) levels) where
+        pub levels-more : ((j : ℕ) → more j ≡ option_or (levels j) (if list_any (λ v. leads steps v j) front then Some (suc k) else None)) → AreLevels (suc (suc k)) more
         levels-more marked = λ j.
             marked j ∙ ap (λ o. option_or o (if list_any (λ v. leads steps v j) front then Some (suc k) else None)) (are j)
             ∙ elim (least_below (walked j) (suc k)) as (λ o. least_below (walked j) (suc k) ≡ o → option_or o (if list_any (λ v. leads steps v j) front then Some (suc k) else None) ≡ option_or o (if walked j (suc k) then Some (suc k) else None)) [
@@ -126,7 +121,7 @@ module _ (steps : List (ℕ × ℕ)) where
             ] refl
             ∙ sym (least-more (walked j) (suc k))
 
-        pub front-more : (next : List ℕ) → ((j : ℕ) → has next j ≡ (is_none (at levels j) && list_any (λ v. leads steps v j) front)) → IsFront (suc k) next
+        pub front-more : (next : List ℕ) → ((j : ℕ) → has next j ≡ (is_none (levels j) && list_any (λ v. leads steps v j) front)) → IsFront (suc k) next
         front-more next fresh = λ j.
             fresh j ∙ ap (λ o. is_none o && list_any (λ v. leads steps v j) front) (are j)
             ∙ elim (least_below (walked j) (suc k)) as (λ o. least_below (walked j) (suc k) ≡ o → (is_none o && list_any (λ v. leads steps v j) front) ≡ (walked j (suc k) && is_none o)) [
@@ -138,16 +133,16 @@ module _ (steps : List (ℕ × ℕ)) where
             and-true true = refl
             and-true false = refl
 
-    pub levels-start : (levels : Map ℕ ℕ) → ((j : ℕ) → at levels j ≡ (if from == j then Some 0 else None)) → AreLevels 1 levels
+    pub levels-start : (levels : ℕ → Option ℕ) → ((j : ℕ) → levels j ≡ (if from == j then Some 0 else None)) → AreLevels 1 levels
     levels-start levels marked = λ j. marked j
 
     pub front-start : IsFront 0 (from ∷ [])
     front-start = λ j. elim (from == j) as (λ b. (b || false) ≡ (b && true)) [ true ↦ refl | false ↦ refl ]
 
 -- what a round does to both
-pub round : (steps : List (ℕ × ℕ)) (from level m : ℕ) (front next : List ℕ) (levels more : Map ℕ ℕ) → 1 ≤ level → m ≡ level + 1 → AreLevels steps from level levels → ((k : ℕ) → level ≡ suc k → IsFront steps from k front)
-    → ((j : ℕ) → at more j ≡ option_or (at levels j) (if list_any (λ v. leads steps v j) front then Some level else None))
-    → ((j : ℕ) → has next j ≡ (is_none (at levels j) && list_any (λ v. leads steps v j) front)) → AreLevels steps from m more × ((k : ℕ) → m ≡ suc k → IsFront steps from k next)
+pub round : (steps : List (ℕ × ℕ)) (from level m : ℕ) (front next : List ℕ) (levels more : ℕ → Option ℕ) → 1 ≤ level → m ≡ level + 1 → AreLevels steps from level levels → ((k : ℕ) → level ≡ suc k → IsFront steps from k front)
+    → ((j : ℕ) → more j ≡ option_or (levels j) (if list_any (λ v. leads steps v j) front then Some level else None))
+    → ((j : ℕ) → has next j ≡ (is_none (levels j) && list_any (λ v. leads steps v j) front)) → AreLevels steps from m more × ((k : ℕ) → m ≡ suc k → IsFront steps from k next)
 round steps from zero m front next levels more some is are is_front marked fresh = absurd (omega (arith, some))
 round steps from (suc k) m front next levels more some is are is_front marked fresh =
     let here = is_front k refl in

@@ -1,5 +1,10 @@
 pub mod Bools
+pub mod Finding
+pub mod Filling
 pub mod Rows
+pub mod Listing
 pub mod Marking
 pub mod Fronts
+pub mod Renaming
 pub mod Naming
+pub mod Answering

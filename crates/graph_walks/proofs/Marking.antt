@@ -1,49 +1,46 @@
--- Marks: what marking one vertex does.
-use Rattle.std.proofs.Common.{◌≡◌, ℕ, true, false, cond, Option, Some, None, is_some, if◌then◌else◌, refl, sym, ap, ◌∙◌, eqb, true≢false}
-use Rattle.std.specs.Prelude.{is_none}
+-- Marks: what marking one place does.
+use Rattle.std.proofs.Common.{◌≡◌, ℕ, ◌<◌, ◌≤◌, List, length, get_or, set, map, Some, None, inl, inr, if◌then◌else◌, sym, ap, ◌∙◌, arith}
+use Rattle.std.specs.Prelude.{◌==◌}
 use Rattle.std.specs.Option.{option_or}
-use Rattle.std.specs.Ordering.{nat_cmp}
-use Rattle.std.specs.Cmp.{nat_cmp_total}
-use Rattle.std.specs.BTreeMap.{insert_entry}
-use Rattle.std.specs.FinMap.Entries.{find-put}
-use Rattle.std.proofs.lemmas.Bool.{eqb-true}
-use Rattle.graph_model.specs.Maps.{Map, at}
-use Rattle.graph_model.proofs.Sets.{is_eq-nat_cmp}
-use Rattle.edge_index.proofs.OrderedEntries.{insert_entry-put}
+use Rattle.std.proofs.lemmas.Bool.{cases_eq, cases_lt, eq-eqb, ne_eqb}
+use Rattle.std.proofs.lemmas.List.{get_or-map, get_or_past, get_or-set_same, get_or-set_other, length-map, length-set}
+use Rattle.graph_walks.specs.Marks.{mark_of, mark_at}
 use Rattle.graph_walks.proofs.Bools.{unmarked}
 
-pub kept : (marks : Map ℕ ℕ) (id mark j : ℕ) (o : Option ℕ) → o ≡ at marks id → is_some o ≡ true → at marks j ≡ option_or (at marks j) (if eqb id j then Some mark else None)
-kept marks id mark j None is some = absurd (true≢false (sym some))
-kept marks id mark j (Some m) is some =
-    elim (eqb id j) as (λ b. eqb id j ≡ b → at marks j ≡ option_or (at marks j) (if b then Some mark else None)) [
-      | true ↦ λ same.
-          let here : at marks j ≡ Some m = ap (at marks) (sym (eqb-true id j same)) ∙ sym is in
-          here ∙ sym (ap (λ o. option_or o (Some mark)) here)
-      | false ↦ λ _. sym (unmarked (at marks j))
-    ] refl
+within : (ms : List ℕ) (j : ℕ) → j < length ms → mark_at (map mark_of ms) j ≡ mark_of (get_or ms j 0)
+within ms j below = get_or-map mark_of ms j 0 None below
 
-pub marked : (marks more : Map ℕ ℕ) (id mark j : ℕ) → at marks id ≡ None → more ≡ insert_entry nat_cmp marks id mark → at more j ≡ option_or (at marks j) (if eqb id j then Some mark else None)
-marked marks more id mark j none is =
-    ap (λ es. at es j) (is ∙ insert_entry-put nat_cmp id mark marks)
-    ∙ find-put nat_cmp nat_cmp_total j id mark marks
-    ∙ ap (λ b. cond b (Some mark) (at marks j)) (is_eq-nat_cmp j id)
-    ∙ elim (eqb id j) as (λ b. eqb id j ≡ b → cond b (Some mark) (at marks j) ≡ option_or (at marks j) (if b then Some mark else None)) [
-      | true ↦ λ same. sym (ap (λ o. option_or o (Some mark)) (ap (at marks) (sym (eqb-true id j same)) ∙ none))
-      | false ↦ λ _. sym (unmarked (at marks j))
-    ] refl
+past : (ms : List ℕ) (j : ℕ) → length ms ≤ j → mark_at (map mark_of ms) j ≡ None
+past ms j above = get_or_past (map mark_of ms) j None (omega (arith, length-map ms mark_of, above))
 
-pub some_is : (o p : Option ℕ) → o ≡ p → is_some o ≡ true → is_none p ≡ false
-some_is None p is some = absurd (true≢false (sym some))
-some_is (Some m) p is some = ap is_none (sym is)
+some_mark : (mark : ℕ) → mark < 4294967295 → mark_of mark ≡ Some mark
+some_mark mark few = ap (λ b. if b then None else Some mark) (ne_eqb mark 4294967295 (λ same. absurd (omega (arith, few, same))))
 
-pub none_is : (o p : Option ℕ) → o ≡ p → is_some o ≡ false → p ≡ None
-none_is None p is none = sym is
-none_is (Some m) p is none = absurd (true≢false none)
+pub no_mark : (n : ℕ) → n ≡ 4294967295 → mark_of n ≡ None
+no_mark n is = ap (λ b. if b then None else Some n) (eq-eqb n 4294967295 is)
 
-pub seen_some : (o : Option ℕ) → is_none o ≡ false → is_some o ≡ true
-seen_some None wrong = absurd (true≢false wrong)
-seen_some (Some m) there = refl
+pub none_marked : (ms : List ℕ) → ((k : ℕ) → k < length ms → get_or ms k 0 ≡ 4294967295) → (j : ℕ) → mark_at (map mark_of ms) j ≡ None
+none_marked ms all j = elim (cases_lt j (length ms)) [
+  | inl below ↦ within ms j below ∙ no_mark (get_or ms j 0) (all j below)
+  | inr above ↦ past ms j above
+]
 
-pub seen_none : (o : Option ℕ) → is_none o ≡ true → o ≡ None
-seen_none None there = refl
-seen_none (Some m) wrong = absurd (true≢false (sym wrong))
+pub marked : (ms : List ℕ) (place mark : ℕ) → place < length ms → mark < 4294967295 → get_or ms place 0 ≡ 4294967295 → (j : ℕ)
+    → mark_at (map mark_of (set ms place mark)) j ≡ option_or (mark_at (map mark_of ms) j) (if place == j then Some mark else None)
+marked ms place mark inside few free j =
+    elim (cases_eq j place) [
+      | inl same ↦
+          ap (mark_at (map mark_of (set ms place mark))) same
+          ∙ within (set ms place mark) place (omega (arith, inside, length-set ms place mark))
+          ∙ ap mark_of (get_or-set_same ms place mark 0 inside)
+          ∙ some_mark mark few
+          ∙ sym (ap (λ b. option_or (mark_at (map mark_of ms) j) (if b then Some mark else None)) (eq-eqb place j (sym same))
+          ∙ ap (λ o. option_or o (Some mark)) (ap (mark_at (map mark_of ms)) same ∙ within ms place inside ∙ no_mark (get_or ms place 0) free))
+      | inr differs ↦
+          elim (cases_lt j (length ms)) [
+            | inl below ↦
+                within (set ms place mark) j (omega (arith, below, length-set ms place mark)) ∙ ap mark_of (get_or-set_other ms place j mark 0 differs) ∙ sym (within ms j below)
+            | inr above ↦ past (set ms place mark) j (omega (arith, above, length-set ms place mark)) ∙ sym (past ms j above)
+          ]
+          ∙ sym (ap (λ b. option_or (mark_at (map mark_of ms) j) (if b then Some mark else None)) (ne_eqb place j (λ same. differs (sym same))) ∙ unmarked (mark_at (map mark_of ms) j))
+    ]

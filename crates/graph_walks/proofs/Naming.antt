@@ -5,7 +5,7 @@ use Rattle.std.specs.List.{AllByRecursion, list_any, count_by, slice_get}
 use Rattle.std.specs.Option.{option_or}
 use Rattle.std.proofs.lemmas.Bool.{and_parts, or_cases, or_left, or_right, eqb-true, eq-eqb}
 use Rattle.std.proofs.lemmas.List.Sums.{sum_by-cons}
-use Rattle.graph_model.specs.Maps.{Map, IsSet, at, has}
+use Rattle.graph_model.specs.Maps.{IsSet, has}
 use Rattle.graph_model.specs.Walks.{is_walk_by}
 use Rattle.graph_model.proofs.Entries.{same_value, nothing, never}
 use Rattle.graph_model.proofs.Shortest.{IsWalking}
@@ -17,8 +17,8 @@ use Rattle.graph_walks.proofs.Bools.{unmarked}
 
 -- ---- how many have no name
 
-abbrev pub unnamed : Map ℕ ℕ → List ℕ → ℕ
-unnamed names ids = count_by (λ x. is_none (at names x)) ids
+abbrev pub unnamed : (ℕ → Option ℕ) → List ℕ → ℕ
+unnamed names ids = count_by (λ x. is_none (names x)) ids
 
 abbrev one_if : Bool → ℕ
 one_if b = cond b 1 0
@@ -53,29 +53,29 @@ some-none o x is none = nothing x (sym none ∙ is)
 -- ---- a round
 
 -- the front's vertices and those passed before have the name v, and whoever had a name keeps it
-pub record IsSpreading (steps : List (ℕ × ℕ)) (v : ℕ) (old names : Map ℕ ℕ) (front : List ℕ) : Type 0 where
-  pub start : at names v ≡ Some v
-  pub kept : (x q : ℕ) → at old x ≡ Some q → at names x ≡ Some q
-  pub new : (x q : ℕ) → at names x ≡ Some q → (at old x ≡ Some q) ⊎ (q ≡ v)
-  pub joined : (x q : ℕ) → at names x ≡ Some q → (n : ℕ) × (is_walk_by steps n x q ≡ true)
-  pub fresh : (x : ℕ) → has front x ≡ true → at names x ≡ Some v
-  pub passed : (x q : ℕ) → at names x ≡ Some q → (has front x ≡ true) ⊎ ((t : ℕ) → leads steps x t ≡ true → IsSome (at names t))
+pub record IsSpreading (steps : List (ℕ × ℕ)) (v : ℕ) (old names : ℕ → Option ℕ) (front : List ℕ) : Type 0 where
+  pub start : names v ≡ Some v
+  pub kept : (x q : ℕ) → old x ≡ Some q → names x ≡ Some q
+  pub new : (x q : ℕ) → names x ≡ Some q → (old x ≡ Some q) ⊎ (q ≡ v)
+  pub joined : (x q : ℕ) → names x ≡ Some q → (n : ℕ) × (is_walk_by steps n x q ≡ true)
+  pub fresh : (x : ℕ) → has front x ≡ true → names x ≡ Some v
+  pub passed : (x q : ℕ) → names x ≡ Some q → (has front x ≡ true) ⊎ ((t : ℕ) → leads steps x t ≡ true → IsSome (names t))
 
 module _ (steps : List (ℕ × ℕ)) (ids : List ℕ) (two_way : IsTwoWay steps) (into : LeadsInto steps ids) where
   w : IsWalking (is_walk_by steps) (λ i t. leads steps i t ≡ true)
   w = walking steps
 
-  module _ (v : ℕ) (old : Map ℕ ℕ) where
-    pub spread-start : (done : ℕ) (names : Map ℕ ℕ) → IsNaming steps ids done old → at old v ≡ None → ((j : ℕ) → at names j ≡ option_or (at old j) (if v == j then Some v else None)) → IsSpreading steps v old names (v ∷ [])
+  module _ (v : ℕ) (old : ℕ → Option ℕ) where
+    pub spread-start : (done : ℕ) (names : ℕ → Option ℕ) → IsNaming steps ids done old → old v ≡ None → ((j : ℕ) → names j ≡ option_or (old j) (if v == j then Some v else None)) → IsSpreading steps v old names (v ∷ [])
     spread-start done names naming none marked =
-        let start : at names v ≡ Some v = marked v ∙ ap (λ o. option_or o (if v == v then Some v else None)) none ∙ ap (λ b. if b then Some v else None) (eq-eqb v v refl) in
-        let kept = λ (x q : ℕ) (is : at old x ≡ Some q). marked x ∙ ap (λ o. option_or o (if v == x then Some v else None)) is in
+        let start : names v ≡ Some v = marked v ∙ ap (λ o. option_or o (if v == v then Some v else None)) none ∙ ap (λ b. if b then Some v else None) (eq-eqb v v refl) in
+        let kept = λ (x q : ℕ) (is : old x ≡ Some q). marked x ∙ ap (λ o. option_or o (if v == x then Some v else None)) is in
         let at_v = λ (x : ℕ) (here : (v == x) ≡ true). eqb-true v x here in
-        let cases : (x q : ℕ) → at names x ≡ Some q → (at old x ≡ Some q) ⊎ (((v == x) ≡ true) × (q ≡ v)) = λ x q is.
-        elim (at old x) as (λ o. at old x ≡ o → (at old x ≡ Some q) ⊎ (((v == x) ≡ true) × (q ≡ v))) [
+        let cases : (x q : ℕ) → names x ≡ Some q → (old x ≡ Some q) ⊎ (((v == x) ≡ true) × (q ≡ v)) = λ x q is.
+        elim (old x) as (λ o. old x ≡ o → (old x ≡ Some q) ⊎ (((v == x) ≡ true) × (q ≡ v))) [
           | Some r ↦ λ seen. inl (seen ∙ sym (kept x r seen) ∙ is)
           | None ↦ λ unseen.
-              elim (v == x) as (λ b. (v == x) ≡ b → (if b then Some v else None) ≡ Some q → (at old x ≡ Some q) ⊎ (((v == x) ≡ true) × (q ≡ v))) [
+              elim (v == x) as (λ b. (v == x) ≡ b → (if b then Some v else None) ≡ Some q → (old x ≡ Some q) ⊎ (((v == x) ≡ true) × (q ≡ v))) [
                 | true ↦ λ here one. inr (here, sym (same_value v q one))
                 | false ↦ λ _ one. nothing q one
               ] refl (sym (marked x ∙ ap (λ o. option_or o (if v == x then Some v else None)) unseen) ∙ is)
@@ -89,7 +89,7 @@ module _ (steps : List (ℕ × ℕ)) (ids : List ℕ) (two_way : IsTwoWay steps)
             | inr here ↦ (0, eq-eqb x q (sym (at_v x here.0) ∙ sym here.1))
           ];
           fresh = λ x there. elim (or_cases (v == x) false there) [
-            | inl here ↦ subst (λ y. at names y ≡ Some v) (at_v x here) start
+            | inl here ↦ subst (λ y. names y ≡ Some v) (at_v x here) start
             | inr wrong ↦ never wrong
           ];
           passed = λ x q is. elim (cases x q is) [
@@ -98,23 +98,23 @@ module _ (steps : List (ℕ × ℕ)) (ids : List ℕ) (two_way : IsTwoWay steps)
           ];
         }
 
-    module _ (names more : Map ℕ ℕ) (front next : List ℕ) (spreading : IsSpreading steps v old names front)
-        (marked : (j : ℕ) → at more j ≡ option_or (at names j) (if list_any (λ x. leads steps x j) front then Some v else None))
-        (fresh : (j : ℕ) → has next j ≡ (is_none (at names j) && list_any (λ x. leads steps x j) front)) where
-      stays : (x q : ℕ) → at names x ≡ Some q → at more x ≡ Some q
+    module _ (names more : ℕ → Option ℕ) (front next : List ℕ) (spreading : IsSpreading steps v old names front)
+        (marked : (j : ℕ) → more j ≡ option_or (names j) (if list_any (λ x. leads steps x j) front then Some v else None))
+        (fresh : (j : ℕ) → has next j ≡ (is_none (names j) && list_any (λ x. leads steps x j) front)) where
+      stays : (x q : ℕ) → names x ≡ Some q → more x ≡ Some q
       stays x q is = marked x ∙ ap (λ o. option_or o (if list_any (λ y. leads steps y x) front then Some v else None)) is
 
-      named_now : (x : ℕ) → list_any (λ y. leads steps y x) front ≡ true → IsSome (at more x)
+      named_now : (x : ℕ) → list_any (λ y. leads steps y x) front ≡ true → IsSome (more x)
       named_now x reached =
-          ap is_some (marked x ∙ ap (λ b. option_or (at names x) (if b then Some v else None)) reached)
-          ∙ elim (at names x) as (λ o. is_some (option_or o (Some v)) ≡ true) [ Some r ↦ refl | None ↦ refl ]
+          ap is_some (marked x ∙ ap (λ b. option_or (names x) (if b then Some v else None)) reached)
+          ∙ elim (names x) as (λ o. is_some (option_or o (Some v)) ≡ true) [ Some r ↦ refl | None ↦ refl ]
 
-      cases : (x q : ℕ) → at more x ≡ Some q → (at names x ≡ Some q) ⊎ ((at names x ≡ None) × (list_any (λ y. leads steps y x) front ≡ true) × (q ≡ v))
+      cases : (x q : ℕ) → more x ≡ Some q → (names x ≡ Some q) ⊎ ((names x ≡ None) × (list_any (λ y. leads steps y x) front ≡ true) × (q ≡ v))
       cases x q is =
-          elim (at names x) as (λ o. at names x ≡ o → (at names x ≡ Some q) ⊎ ((at names x ≡ None) × (list_any (λ y. leads steps y x) front ≡ true) × (q ≡ v))) [
+          elim (names x) as (λ o. names x ≡ o → (names x ≡ Some q) ⊎ ((names x ≡ None) × (list_any (λ y. leads steps y x) front ≡ true) × (q ≡ v))) [
             | Some r ↦ λ seen. inl (seen ∙ sym (stays x r seen) ∙ is)
             | None ↦ λ unseen.
-                elim (list_any (λ y. leads steps y x) front) as (λ b. list_any (λ y. leads steps y x) front ≡ b → (if b then Some v else None) ≡ Some q → (at names x ≡ Some q) ⊎ ((at names x ≡ None) × (list_any (λ y. leads steps y x) front ≡ true) × (q ≡ v))) [
+                elim (list_any (λ y. leads steps y x) front) as (λ b. list_any (λ y. leads steps y x) front ≡ b → (if b then Some v else None) ≡ Some q → (names x ≡ Some q) ⊎ ((names x ≡ None) × (list_any (λ y. leads steps y x) front ≡ true) × (q ≡ v))) [
                   | true ↦ λ reached one. inr (unseen, reached, sym (same_value v q one))
                   | false ↦ λ _ one. nothing q one
                 ] refl (sym (marked x ∙ ap (λ o. option_or o (if list_any (λ y. leads steps y x) front then Some v else None)) unseen) ∙ is)
@@ -133,8 +133,8 @@ module _ (steps : List (ℕ × ℕ)) (ids : List ℕ) (two_way : IsTwoWay steps)
               (suc rest.0, subst (λ k. is_walk_by steps (suc rest.0) x k ≡ true) (sym now.2) (w.joins rest.0 x y.0 v (two_way y.0 x y.2) rest.1))
         ];
         fresh = λ x there.
-            let parts = and_parts (is_none (at names x)) (list_any (λ y. leads steps y x) front) (sym (fresh x) ∙ there) in
-            elim (at names x) as (λ o. at names x ≡ o → is_none o ≡ true → at more x ≡ Some v) [
+            let parts = and_parts (is_none (names x)) (list_any (λ y. leads steps y x) front) (sym (fresh x) ∙ there) in
+            elim (names x) as (λ o. names x ≡ o → is_none o ≡ true → more x ≡ Some v) [
               | Some r ↦ λ _ wrong. never wrong
               | None ↦ λ unseen _.
                   marked x ∙ ap (λ o. option_or o (if list_any (λ y. leads steps y x) front then Some v else None)) unseen ∙ ap (λ b. if b then Some v else None) parts.1
@@ -143,7 +143,7 @@ module _ (steps : List (ℕ × ℕ)) (ids : List ℕ) (two_way : IsTwoWay steps)
           | inl seen ↦ elim (spreading.passed x q seen) [
             | inl in_front ↦ inr (λ t step. named_now t (any_has (λ y. leads steps y t) front x in_front step))
             | inr before ↦ inr (λ t step.
-                elim (at names t) as (λ o. at names t ≡ o → is_some o ≡ true → IsSome (at more t)) [
+                elim (names t) as (λ o. names t ≡ o → is_some o ≡ true → IsSome (more t)) [
                   | Some r ↦ λ seen_t _. ap is_some (stays t r seen_t)
                   | None ↦ λ _ wrong. never wrong
                 ] refl (before t step))
@@ -152,9 +152,9 @@ module _ (steps : List (ℕ × ℕ)) (ids : List ℕ) (two_way : IsTwoWay steps)
         ];
       }
 
-      also : (x : ℕ) → is_none (at more x) ≡ true → is_none (at names x) ≡ true
+      also : (x : ℕ) → is_none (more x) ≡ true → is_none (names x) ≡ true
       also x none =
-          elim (at names x) as (λ o. at names x ≡ o → is_none o ≡ true) [
+          elim (names x) as (λ o. names x ≡ o → is_none o ≡ true) [
             | Some r ↦ λ seen. never (sym (ap is_none (stays x r seen)) ∙ none)
             | None ↦ λ _. refl
           ] refl
@@ -166,13 +166,13 @@ module _ (steps : List (ℕ × ℕ)) (ids : List ℕ) (two_way : IsTwoWay steps)
           by_next [] is = inl is
           by_next (x ∷ xs) is =
               let there : has next x ≡ true = ap (λ ns. has ns x) is ∙ or_left _ _ (eq-eqb x x refl) in
-              let parts = and_parts (is_none (at names x)) (list_any (λ y. leads steps y x) front) (sym (fresh x) ∙ there) in
+              let parts = and_parts (is_none (names x)) (list_any (λ y. leads steps y x) front) (sym (fresh x) ∙ there) in
               let y = any_some (λ y. leads steps y x) front parts.1 in
-              let gone : is_none (at more x) ≡ false = elim (at more x) as (λ o. is_some o ≡ true → is_none o ≡ false) [ Some r ↦ λ _. refl | None ↦ λ wrong. never wrong ] (named_now x parts.1) in
-              inr (count-more (λ k. is_none (at more k)) (λ k. is_none (at names k)) also ids x (into y.0 x y.2) gone parts.0)
+              let gone : is_none (more x) ≡ false = elim (more x) as (λ o. is_some o ≡ true → is_none o ≡ false) [ Some r ↦ λ _. refl | None ↦ λ wrong. never wrong ] (named_now x parts.1) in
+              inr (count-more (λ k. is_none (more k)) (λ k. is_none (names k)) also ids x (into y.0 x y.2) gone parts.0)
 
       pub no_more : unnamed more ids ≤ unnamed names ids
-      no_more = count-le (λ k. is_none (at more k)) (λ k. is_none (at names k)) also ids
+      no_more = count-le (λ k. is_none (more k)) (λ k. is_none (names k)) also ids
 
 -- ---- the end of a spread
 
@@ -219,14 +219,14 @@ take-more (k ∷ ks) (suc n) v x is there =
     ]
 
 module _ (steps : List (ℕ × ℕ)) (ids : List ℕ) (rising : IsSet ids) (two_way : IsTwoWay steps) (into : LeadsInto steps ids)
-    (done v : ℕ) (is : slice_get ids done ≡ Some v) (here : has ids v ≡ true) (old : Map ℕ ℕ) (naming : IsNaming steps ids done old) where
+    (done v : ℕ) (is : slice_get ids done ≡ Some v) (here : has ids v ≡ true) (old : ℕ → Option ℕ) (naming : IsNaming steps ids done old) where
   there_by : (n x : ℕ) → is_walk_by steps n x v ≡ true → has ids x ≡ true
   there_by zero x walk = subst (λ k. has ids k ≡ true) (sym (eqb-true x v walk)) here
   there_by (suc n) x walk =
       let first = (walking steps).splits n x v walk in
       into first.0 x (two_way x first.0 first.1)
 
-  pub spread-end : (names : Map ℕ ℕ) → IsSpreading steps v old names [] → IsNaming steps ids (suc done) names
+  pub spread-end : (names : ℕ → Option ℕ) → IsSpreading steps v old names [] → IsNaming steps ids (suc done) names
   spread-end names spreading = record {
     joined = spreading.joined;
     closed = λ x t q named step. elim (spreading.new x q named) [
@@ -234,7 +234,7 @@ module _ (steps : List (ℕ × ℕ)) (ids : List ℕ) (rising : IsSet ids) (two_
       | inr mine ↦ elim (spreading.passed x q named) [
         | inl wrong ↦ never wrong
         | inr passed ↦
-            elim (at names t) as (λ o. at names t ≡ o → is_some o ≡ true → at names t ≡ Some q) [
+            elim (names t) as (λ o. names t ≡ o → is_some o ≡ true → names t ≡ Some q) [
               | None ↦ λ _ wrong. never wrong
               | Some r ↦ λ is_r _. elim (spreading.new t r is_r) [
                 | inl seen ↦
@@ -248,7 +248,7 @@ module _ (steps : List (ℕ × ℕ)) (ids : List ℕ) (rising : IsSet ids) (two_
     least = λ x q named. elim (spreading.new x q named) [
       | inl seen ↦ naming.least x q seen
       | inr mine ↦
-          elim (at old x) as (λ o. at old x ≡ o → q ≤ x) [
+          elim (old x) as (λ o. old x ≡ o → q ≤ x) [
             | Some r ↦ λ seen. subst (λ k. k ≤ x) (same_value r q (sym (spreading.kept x r seen) ∙ named)) (naming.least x r seen)
             | None ↦ λ unseen.
                 let walk = spreading.joined x q named in
@@ -260,23 +260,23 @@ module _ (steps : List (ℕ × ℕ)) (ids : List ℕ) (rising : IsSet ids) (two_
     ];
     named = λ x there. elim (take-more ids done v x is there) [
       | inl before ↦
-          elim (at old x) as (λ o. at old x ≡ o → is_some o ≡ true → IsSome (at names x)) [
+          elim (old x) as (λ o. old x ≡ o → is_some o ≡ true → IsSome (names x)) [
             | Some r ↦ λ seen _. ap is_some (spreading.kept x r seen)
             | None ↦ λ _ wrong. never wrong
           ] refl (naming.named x before)
-      | inr same ↦ subst (λ k. IsSome (at names k)) same (ap is_some spreading.start)
+      | inr same ↦ subst (λ k. IsSome (names k)) same (ap is_some spreading.start)
     ];
   }
 
   -- where it has a name already
-  pub spread-not : IsSome (at old v) → (names : Map ℕ ℕ) → ((j : ℕ) → at names j ≡ option_or (at old j) (if v == j then Some v else None)) → IsNaming steps ids (suc done) names
+  pub spread-not : IsSome (old v) → (names : ℕ → Option ℕ) → ((j : ℕ) → names j ≡ option_or (old j) (if v == j then Some v else None)) → IsNaming steps ids (suc done) names
   spread-not some names marked = record {
     joined = λ x q named. naming.joined x q (sym (same x) ∙ named);
     closed = λ x t q named step. same t ∙ naming.closed x t q (sym (same x) ∙ named) step;
     least = λ x q named. naming.least x q (sym (same x) ∙ named);
     named = λ x there. elim (take-more ids done v x is there) [
       | inl before ↦ ap is_some (same x) ∙ naming.named x before
-      | inr here ↦ ap is_some (same x) ∙ subst (λ k. IsSome (at old k)) here some
+      | inr here ↦ ap is_some (same x) ∙ subst (λ k. IsSome (old k)) here some
     ];
   }
     where
@@ -284,12 +284,12 @@ module _ (steps : List (ℕ × ℕ)) (ids : List ℕ) (rising : IsSet ids) (two_
       some_or None p wrong = never wrong
       some_or (Some k) p there = refl
 
-      same : (j : ℕ) → at names j ≡ at old j
+      same : (j : ℕ) → names j ≡ old j
       same j =
           marked j
-          ∙ elim (v == j) as (λ b. (v == j) ≡ b → option_or (at old j) (if b then Some v else None) ≡ at old j) [
-            | true ↦ λ here. some_or (at old j) (Some v) (subst (λ k. IsSome (at old k)) (eqb-true v j here) some)
-            | false ↦ λ _. unmarked (at old j)
+          ∙ elim (v == j) as (λ b. (v == j) ≡ b → option_or (old j) (if b then Some v else None) ≡ old j) [
+            | true ↦ λ here. some_or (old j) (Some v) (subst (λ k. IsSome (old k)) (eqb-true v j here) some)
+            | false ↦ λ _. unmarked (old j)
           ] refl
 
 -- ---- the measure
@@ -320,7 +320,7 @@ at-has (k ∷ ks) (suc n) v is = or_right _ _ (at-has ks n v is)
 
 -- ---- all of them
 
-pub naming-start : (steps : List (ℕ × ℕ)) (ids : List ℕ) → IsNaming steps ids 0 []
+pub naming-start : (steps : List (ℕ × ℕ)) (ids : List ℕ) → IsNaming steps ids 0 (λ j. None)
 naming-start steps ids = record {
   joined = λ x q named. nothing q named;
   closed = λ x t q named step. nothing q named;
@@ -328,16 +328,16 @@ naming-start steps ids = record {
   named = λ x there. never there;
 }
 
-module _ (steps : List (ℕ × ℕ)) (ids : List ℕ) (names : Map ℕ ℕ) (done : ℕ) (naming : IsNaming steps ids done names) where
-  along : (n j k c : ℕ) → at names j ≡ Some c → is_walk_by steps n j k ≡ true → at names k ≡ Some c
-  along zero j k c named walk = subst (λ x. at names x ≡ Some c) (eqb-true j k walk) named
+module _ (steps : List (ℕ × ℕ)) (ids : List ℕ) (names : ℕ → Option ℕ) (done : ℕ) (naming : IsNaming steps ids done names) where
+  along : (n j k c : ℕ) → names j ≡ Some c → is_walk_by steps n j k ≡ true → names k ≡ Some c
+  along zero j k c named walk = subst (λ x. names x ≡ Some c) (eqb-true j k walk) named
   along (suc n) j k c named walk =
       let first = (walking steps).splits n j k walk in
       along n first.0 k c (naming.closed j first.0 c named first.1) first.2
 
-  pub least-joined : (j : ℕ) → has (take done ids) j ≡ true → IsSomeAnd (at names j) (IsLeastJoined steps j)
+  pub least-joined : (j : ℕ) → has (take done ids) j ≡ true → IsSomeAnd (names j) (IsLeastJoined steps j)
   least-joined j there =
-      elim (at names j) as (λ o. at names j ≡ o → is_some o ≡ true → IsSomeAnd o (IsLeastJoined steps j)) [
+      elim (names j) as (λ o. names j ≡ o → is_some o ≡ true → IsSomeAnd o (IsLeastJoined steps j)) [
         | None ↦ λ _ wrong. never wrong
         | Some c ↦ λ named _. record { joined = naming.joined j c named; least = λ k n walk. naming.least k c (along n j k c named walk) }
       ] refl (naming.named j there)

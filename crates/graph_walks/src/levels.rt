@@ -1,100 +1,131 @@
-ghost use Rattle.std.specs.Prelude.{◌≡◌, ℕ, ◌≤◌, ◌&&◌, ◌||◌, Some, None, is_none, IfOk, OnOk, if◌then◌else◌, ◌==◌};
+ghost use Rattle.std.specs.Prelude.{◌≡◌, ℕ, ◌<◌, ◌≤◌, ◌&&◌, ◌||◌, Some, None, length, is_none, slice_index, IsTrue, IfOk, OnOk, if◌then◌else◌, ◌==◌};
 ghost use Rattle.std.specs.List.{list_any};
 ghost use Rattle.std.specs.Option.{option_or};
-ghost use Rattle.graph_model.specs.Maps.{at, has};
+ghost use Rattle.graph_model.specs.Maps.{has};
 ghost use Rattle.graph_model.specs.Walks.{is_walk_by, least_below};
-ghost use Rattle.graph_walks.specs.Steps.{leads};
+ghost use Rattle.graph_walks.specs.Marks.{mark_at};
+ghost use Rattle.graph_walks.specs.Steps.{leads, steps_of};
 
-use crate::{Marks, StepRows};
-use gdi_kinds::{NoMemory, NumList};
+use crate::FlatSteps;
+use crate::marks::Marks;
+use gdi_kinds::NoMemory;
 use std::alloc::Global;
+use std::mem;
 
 /// Marks each vertex with its level, the least number of steps of a walk to it from `from`, where that is below `bound`.
-pub fn levels_from(
+pub(crate) fn levels_from(
     alloc: Global,
-    steps: &StepRows,
+    steps: &FlatSteps,
     from: u64,
-    bound: u64,
+    bound: u32,
 ) -> Result<Marks, NoMemory>
     requires { 1 ≤ bound }
-    ensures { IfOk result (λ levels. (j : ℕ) → at levels j ≡ least_below (λ n. is_walk_by steps.now n from j) bound) }
+    ensures len { IfOk result (λ levels. length levels ≡ length steps.now.ids) }
+    ensures levels { IfOk result (λ levels. (place : ℕ) → place < length steps.now.ids → mark_at levels place
+        ≡ least_below (λ n. is_walk_by (steps_of steps.now) n from (slice_index steps.now.ids place)) bound) }
 {
-    let mut levels = Marks::new(alloc);
-    levels.mark(from, 0)?;
-    let mut front = NumList::new(alloc);
-    front.push(from)?;
+    let count = steps.len();
+    let Some(place) = steps.places().place(from) else {
+        let unmarked = Marks::new(alloc, count)?;
+        return Ok(unmarked);
+    };
+    let levels = levels_at(alloc, steps, place, bound)?;
+    Ok(levels)
+}
+
+// The same by places.
+fn levels_at(alloc: Global, steps: &FlatSteps, from: usize, bound: u32) -> Result<Marks, NoMemory>
+    requires bound { 1 ≤ bound }
+    requires from { from < length steps.now.ids }
+    ensures len { IfOk result (λ levels. length levels ≡ length steps.now.ids) }
+    ensures levels { IfOk result (λ levels. (j : ℕ) → mark_at levels j ≡ least_below (λ n. is_walk_by steps.now.hops n from j) bound) }
+{
+    let mut levels = Marks::new(alloc, steps.len())?;
+    levels.mark(from, 0);
+    let mut front = vec![in alloc; from as u32]?;
+    let mut next = Vec::new(alloc);
     for level in 1..bound {
-        front = next_front(alloc, steps, &front, level, &mut levels)?;
+        next.clear();
+        next_front(steps, &front, level, &mut levels, &mut next)?;
+        mem::swap(&mut front, &mut next);
     }
     Ok(levels)
 }
 
-/// Marks the vertices without a mark to which steps from the front lead, and answers them.
+/// Marks the places without a mark to which steps from the front lead, and puts them behind those that come next.
 pub(crate) fn next_front(
-    alloc: Global,
-    steps: &StepRows,
-    front: &NumList,
-    mark: u64,
+    steps: &FlatSteps,
+    front: &[u32],
+    mark: u32,
     marks: &mut Marks,
-) -> Result<NumList, NoMemory>
-    ensures marks { OnOk result ((j : ℕ) → at marks.new j
-        ≡ option_or (at marks.old j) (if list_any (λ v. leads steps.now v j) front.now then Some mark else None)) }
-    ensures next { IfOk result (λ next. (j : ℕ) → has next j
-        ≡ (is_none (at marks.old j) && list_any (λ v. leads steps.now v j) front.now)) }
-{
-    let mut next = NumList::new(alloc);
-    for v in front.as_slice() {
-        mark_from(steps, *v, mark, marks, &mut next)?;
-    }
-    Ok(next)
-}
-
-// Marks the vertices without a mark to which steps from a vertex lead, and puts them behind others.
-fn mark_from(
-    steps: &StepRows,
-    from: u64,
-    mark: u64,
-    marks: &mut Marks,
-    next: &mut NumList,
+    next: &mut Vec<u32>,
 ) -> Result<(), NoMemory>
-    ensures marks { OnOk result ((j : ℕ) → at marks.new j
-        ≡ option_or (at marks.old j) (if leads steps.now from j then Some mark else None)) }
-    ensures next { OnOk result ((j : ℕ) → has next.new j
-        ≡ (has next.old j || (is_none (at marks.old j) && leads steps.now from j))) }
+    requires mark { mark < 4294967295 }
+    requires len { length marks.old ≡ length steps.now.ids }
+    ensures len { length marks.new ≡ length marks.old }
+    ensures marks { OnOk result ((j : ℕ) → mark_at marks.new j
+        ≡ option_or (mark_at marks.old j) (if list_any (λ v. leads steps.now.hops v j) front.now then Some mark else None)) }
+    ensures next { OnOk result ((j : ℕ) → has next.new.items j
+        ≡ (has next.old.items j || (is_none (mark_at marks.old j) && list_any (λ v. leads steps.now.hops v j) front.now))) }
 {
-    let Some(row) = steps.row(from) else {
-        return Ok(());
-    };
-    mark_each(row, mark, marks, next)
-}
-
-// Marks those of a list that have no mark, and puts them behind others.
-fn mark_each(
-    ids: &NumList,
-    mark: u64,
-    marks: &mut Marks,
-    next: &mut NumList,
-) -> Result<(), NoMemory>
-    ensures marks { OnOk result ((j : ℕ) → at marks.new j
-        ≡ option_or (at marks.old j) (if has ids.now j then Some mark else None)) }
-    ensures next { OnOk result ((j : ℕ) → has next.new j
-        ≡ (has next.old j || (is_none (at marks.old j) && has ids.now j))) }
-{
-    for id in ids.as_slice() {
-        mark_one(*id, mark, marks, next)?;
+    for v in front {
+        mark_from(steps, *v as usize, mark, marks, next)?;
     }
     Ok(())
 }
 
-// Marks a vertex that has no mark, and puts it behind others.
-fn mark_one(id: u64, mark: u64, marks: &mut Marks, next: &mut NumList) -> Result<(), NoMemory>
-    ensures marks { OnOk result ((j : ℕ) → at marks.new j
-        ≡ option_or (at marks.old j) (if id == j then Some mark else None)) }
-    ensures next { OnOk result ((j : ℕ) → has next.new j
-        ≡ (has next.old j || (is_none (at marks.old j) && (id == j)))) }
+// Marks the places without a mark to which steps from a place lead, and puts them behind others.
+fn mark_from(
+    steps: &FlatSteps,
+    from: usize,
+    mark: u32,
+    marks: &mut Marks,
+    next: &mut Vec<u32>,
+) -> Result<(), NoMemory>
+    requires mark { mark < 4294967295 }
+    requires len { length marks.old ≡ length steps.now.ids }
+    ensures len { length marks.new ≡ length marks.old }
+    ensures marks { OnOk result ((j : ℕ) → mark_at marks.new j
+        ≡ option_or (mark_at marks.old j) (if leads steps.now.hops from j then Some mark else None)) }
+    ensures next { OnOk result ((j : ℕ) → has next.new.items j
+        ≡ (has next.old.items j || (is_none (mark_at marks.old j) && leads steps.now.hops from j))) }
 {
-    if marks.mark(id, mark)? {
-        next.push(id)?;
+    mark_each(steps.row(from), mark, marks, next)
+}
+
+// Marks those of some places that have no mark, and puts them behind others.
+fn mark_each(
+    places: &[u32],
+    mark: u32,
+    marks: &mut Marks,
+    next: &mut Vec<u32>,
+) -> Result<(), NoMemory>
+    requires mark { mark < 4294967295 }
+    requires within { (j : ℕ) → IsTrue (has places.now j) → j < length marks.old }
+    ensures len { length marks.new ≡ length marks.old }
+    ensures marks { OnOk result ((j : ℕ) → mark_at marks.new j
+        ≡ option_or (mark_at marks.old j) (if has places.now j then Some mark else None)) }
+    ensures next { OnOk result ((j : ℕ) → has next.new.items j
+        ≡ (has next.old.items j || (is_none (mark_at marks.old j) && has places.now j))) }
+{
+    for place in places {
+        mark_one(*place, mark, marks, next)?;
+    }
+    Ok(())
+}
+
+// Marks a place that has no mark, and puts it behind others.
+fn mark_one(place: u32, mark: u32, marks: &mut Marks, next: &mut Vec<u32>) -> Result<(), NoMemory>
+    requires place { place < length marks.old }
+    requires mark { mark < 4294967295 }
+    ensures len { length marks.new ≡ length marks.old }
+    ensures marks { OnOk result ((j : ℕ) → mark_at marks.new j
+        ≡ option_or (mark_at marks.old j) (if place == j then Some mark else None)) }
+    ensures next { OnOk result ((j : ℕ) → has next.new.items j
+        ≡ (has next.old.items j || (is_none (mark_at marks.old j) && (place == j)))) }
+{
+    if marks.mark(place as usize, mark) {
+        next.push(place)?;
     }
     Ok(())
 }

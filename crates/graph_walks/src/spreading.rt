@@ -1,51 +1,50 @@
-ghost use Rattle.std.specs.Prelude.{◌≡◌, ℕ, ◌+◌, ◌<◌, true, length, IfOk, OnOk, IsSomeAnd};
-ghost use Rattle.graph_model.specs.Maps.{at, has, IsSet};
+ghost use Rattle.std.specs.Prelude.{◌≡◌, ℕ, ◌+◌, ◌<◌, true, length, slice_index, IfOk, OnOk, IsSomeAnd};
+ghost use Rattle.std.specs.List.{range_with_len};
+ghost use Rattle.graph_walks.specs.Marks.{mark_at};
 ghost use Rattle.graph_walks.specs.Naming.{IsNaming};
-ghost use Rattle.graph_walks.specs.Steps.{IsLeastJoined, IsTwoWay, LeadsInto};
+ghost use Rattle.graph_walks.specs.Steps.{IsLeastJoined, IsTwoWay, steps_of};
 
+use crate::FlatSteps;
 use crate::levels::next_front;
-use crate::{Marks, StepRows};
-use gdi_kinds::{NoMemory, NumList};
+use crate::marks::Marks;
+use gdi_kinds::NoMemory;
 use std::alloc::Global;
+use std::mem;
 
-/// Marks each of these vertices with the least vertex that a walk joins with it. They are all vertices there are, rising,
-/// and each step may be taken back.
-pub fn components(alloc: Global, steps: &StepRows, ids: &NumList) -> Result<Marks, NoMemory>
-    requires rising { IsSet ids.now }
-    requires two_way { IsTwoWay steps.now }
-    requires into { LeadsInto steps.now ids.now }
-    ensures { IfOk result (λ names. (j : ℕ) → has ids.now j ≡ true → IsSomeAnd (at names j) (IsLeastJoined steps.now j)) }
+/// Marks each place with the place of the least one that a walk joins with it. Each step may be taken back.
+pub(crate) fn components(alloc: Global, steps: &FlatSteps) -> Result<Marks, NoMemory>
+    requires { IsTwoWay steps.now.hops }
+    ensures len { IfOk result (λ names. length names ≡ length steps.now.ids) }
+    ensures names { IfOk result (λ names. (j : ℕ) → j < length steps.now.ids → IsSomeAnd (mark_at names j) (IsLeastJoined steps.now.hops j)) }
 {
-    let mut names = Marks::new(alloc);
-    for place in 0..ids.len() {
-        spread(alloc, steps, ids, place, &mut names)?;
+    let count = steps.len();
+    let mut names = Marks::new(alloc, count)?;
+    for place in 0..count {
+        spread(alloc, steps, place, &mut names)?;
     }
     Ok(names)
 }
 
-// Gives the component of the vertex at a place its name, if it has none yet.
-fn spread(
-    alloc: Global,
-    steps: &StepRows,
-    ids: &NumList,
-    place: usize,
-    names: &mut Marks,
-) -> Result<(), NoMemory>
-    requires place { place < length ids.now }
-    requires rising { IsSet ids.now }
-    requires two_way { IsTwoWay steps.now }
-    requires into { LeadsInto steps.now ids.now }
-    requires so_far { IsNaming steps.now ids.now place names.old }
-    ensures { OnOk result (IsNaming steps.now ids.now (place + 1) names.new) }
+// Gives the component of a place its name, if it has none yet.
+fn spread(alloc: Global, steps: &FlatSteps, place: usize, names: &mut Marks) -> Result<(), NoMemory>
+    requires place { place < length steps.now.ids }
+    requires len { length names.old ≡ length steps.now.ids }
+    requires two_way { IsTwoWay steps.now.hops }
+    requires so_far { IsNaming steps.now.hops (range_with_len 0 (length steps.now.ids)) place (mark_at names.old) }
+    ensures len { length names.new ≡ length names.old }
+    ensures more { OnOk result (IsNaming steps.now.hops (range_with_len 0 (length steps.now.ids)) (place + 1) (mark_at names.new)) }
 {
-    let least = *ids.at(place);
-    if !names.mark(least, least)? {
+    let _count = steps.len();
+    let least = place as u32;
+    if !names.mark(place, least) {
         return Ok(());
     }
-    let mut front = NumList::new(alloc);
-    front.push(least)?;
+    let mut front = vec![in alloc; least]?;
+    let mut next = Vec::new(alloc);
     while front.len() > 0 {
-        front = next_front(alloc, steps, &front, least, names)?;
+        next.clear();
+        next_front(steps, &front, least, names, &mut next)?;
+        mem::swap(&mut front, &mut next);
     }
     Ok(())
 }

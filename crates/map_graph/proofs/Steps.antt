@@ -1,21 +1,19 @@
 -- Walks by the steps of rows are those of the graph.
-use Rattle.std.proofs.Common.{◌≡◌, ℕ, zero, suc, ◌+◌, ◌-◌, ◌<◌, ◌≤◌, Bool, true, false, cond, ◌&&◌, ◌||◌, List, [], ◌∷◌, ◌++◌, length, Option, Some, None, is_some, if◌then◌else◌, refl, sym, ap, ◌∙◌, arith}
+use Rattle.std.proofs.Common.{◌≡◌, ℕ, zero, suc, ◌<◌, Bool, true, false, cond, ◌&&◌, ◌||◌, List, [], ◌∷◌, ◌++◌, Option, Some, None, is_some, if◌then◌else◌, refl, sym, ap, ◌∙◌, arith}
 use Rattle.std.specs.Prelude.{◌==◌, IsSome, nat_le, nat_lt, count_by}
 use Rattle.std.specs.List.{AllByRecursion, flat_map, filter}
 use Rattle.std.specs.Option.{option_map_or, option_or}
-use Rattle.std.proofs.lemmas.Bool.{and_parts, and_from, or_cases, or_left, or_right, eqb-true, eq-eqb}
-use Rattle.std.proofs.lemmas.Bool.Decides.{nat_tests}
-use Rattle.std.proofs.lemmas.List.Folds.{list_any-append}
+use Rattle.std.proofs.lemmas.Bool.{or_left, or_right, eq-eqb}
+use Rattle.std.proofs.lemmas.List.{append_assoc}
 use Rattle.std.proofs.lemmas.List.Sums.{sum_by-cons}
-use Rattle.graph_model.specs.Maps.{Map, keys, has, at}
+use Rattle.graph_model.specs.Maps.{Map, keys, has}
 use Rattle.graph_model.specs.Graph.{Graph, Vertex, Edge, EdgeKey, vertex_at}
 use Rattle.graph_model.specs.WellFormed.{IsWellFormed}
 use Rattle.graph_model.specs.Walks.{both_ways, steps_over, graph_steps, joining_steps, is_walk_by, component_of, least_below}
-use Rattle.graph_model.proofs.Entries.{nothing, never}
-use Rattle.graph_model.proofs.Levels.{EndsAreThere, walking, led-there, steps-there, listed}
-use Rattle.graph_model.proofs.Components.{component_least, vertex_component}
-use Rattle.graph_walks.specs.Steps.{leads, IsTwoWay, LeadsInto, IsLeastJoined}
-use Rattle.graph_walks.proofs.Fronts.{same_tests, least-more}
+use Rattle.graph_model.proofs.Levels.{EndsAreThere, walking, listed}
+use Rattle.graph_model.proofs.Components.{component_least}
+use Rattle.graph_walks.specs.Steps.{leads, IsTwoWay, IsLeastJoined}
+use Rattle.graph_walks.proofs.Bools.{same_tests}
 
 -- ---- the same steps, the same walks
 
@@ -34,27 +32,15 @@ same_levels a b same i j bound = ap (λ (p : ℕ → Bool). least_below p bound)
 
 -- ---- steps of edges
 
-leads-append : (a b : List (ℕ × ℕ)) (i t : ℕ) → leads (a ++ b) i t ≡ (leads a i t || leads b i t)
-leads-append a b i t = list_any-append (λ (step : ℕ × ℕ). step.0 == i && step.1 == t) a b
-
-or-assoc : (x y z : Bool) → ((x || y) || z) ≡ (x || (y || z))
-or-assoc true y z = refl
-or-assoc false y z = refl
-
 pub or-false : (x : Bool) → (x || false) ≡ x
 or-false true = refl
 or-false false = refl
 
 -- the steps so far and those of the edges to come
-pub steps_more : (over : EdgeKey × Edge → List (ℕ × ℕ)) (before after : List (ℕ × ℕ)) (es rest whole : Map EdgeKey Edge) (e : EdgeKey × Edge) → es ≡ e ∷ rest
-    → ((i t : ℕ) → leads after i t ≡ (leads before i t || leads (over e) i t))
-    → ((i t : ℕ) → (leads before i t || leads (flat_map over es) i t) ≡ leads (flat_map over whole) i t)
-    → (i t : ℕ) → (leads after i t || leads (flat_map over rest) i t) ≡ leads (flat_map over whole) i t
-steps_more over before after es rest whole e next added so_far i t =
-    ap (λ b. b || leads (flat_map over rest) i t) (added i t)
-    ∙ or-assoc (leads before i t) (leads (over e) i t) (leads (flat_map over rest) i t)
-    ∙ ap (λ b. leads before i t || b) (sym (leads-append (over e) (flat_map over rest) i t))
-    ∙ ap (λ es. leads before i t || leads (flat_map over es) i t) (sym next) ∙ so_far i t
+pub steps_more : (over : EdgeKey × Edge → List (ℕ × ℕ)) (before after whole : List (ℕ × ℕ)) (es rest : Map EdgeKey Edge) (e : EdgeKey × Edge) → es ≡ e ∷ rest
+    → after ≡ before ++ over e → before ++ flat_map over es ≡ whole → after ++ flat_map over rest ≡ whole
+steps_more over before after whole es rest e next added so_far =
+    ap (λ steps. steps ++ flat_map over rest) added ∙ append_assoc before (over e) (flat_map over rest) ∙ sym (ap (λ entries. before ++ flat_map over entries) next) ∙ so_far
 
 -- both ways over each edge
 abbrev pub both_over : EdgeKey × Edge → List (ℕ × ℕ)
@@ -103,29 +89,33 @@ joining-there : (g : Graph) (steps : List (ℕ × ℕ)) → AllByRecursion (Ends
 joining-there g [] all = tt
 joining-there g (s ∷ ss) all = (all.0, ((all.0.1, all.0.0), joining-there g ss all.1))
 
+-- both ends of each edge are vertices
+abbrev pub EndsAreIn : List ℕ → EdgeKey × Edge → Type 0
+EndsAreIn ids entry = (has ids entry.0.source ≡ true) × (has ids entry.1.target ≡ true)
+
+pub ends-there : (g : Graph) → IsWellFormed g → AllByRecursion (EndsAreIn (keys g.vertices)) g.edges
+ends-there g well = by_list g.edges well.each_edge
+  where
+    some_there : (id : ℕ) (o : Option Vertex) (P : Vertex → Type 0) → Rattle.std.specs.Prelude.IsSomeAnd o P → is_some o ≡ true
+    some_there id None P wrong = absurd wrong
+    some_there id (Some v) P there = refl
+
+    by_list : (es : Map EdgeKey Edge) → AllByRecursion (λ entry. Rattle.graph_model.specs.WellFormed.EdgeFits g entry.0 entry.1) es → AllByRecursion (EndsAreIn (keys g.vertices)) es
+    by_list [] all = tt
+    by_list (e ∷ es) all = ((listed g e.0.source (some_there e.0.source (vertex_at g e.0.source) (λ (v : Vertex). e.0.ordinal < v.next) all.0.source), listed g e.1.target all.0.target), by_list es all.1)
+
 module _ (g : Graph) (steps : List (ℕ × ℕ)) (same : (i t : ℕ) → leads steps i t ≡ leads (joining_steps g) i t) where
   pub joining_two_way : IsTwoWay steps
   joining_two_way = λ i t step. same t i ∙ two-way (graph_steps g) t i ∙ sym (same i t) ∙ step
 
-  pub joining_into : (ids : List ℕ) → ids ≡ keys g.vertices → IsWellFormed g → LeadsInto steps ids
-  joining_into ids is well = λ i t step.
-      ap (λ ks. has ks t) is
-      ∙ listed g t (led-there g (joining_steps g) (joining-there g (graph_steps g) (steps-there g g.edges well.each_edge)) i t (sym (same i t) ∙ step))
-
-  -- the least that is joined is the component's name
-  pub named : (j c : ℕ) → IsWellFormed g → IsSome (vertex_at g j) → IsLeastJoined steps j c → component_of g j ≡ Some c
-  named j c well there least_joined =
-      elim (component_of g j) as (λ o. component_of g j ≡ o → is_some o ≡ true → component_of g j ≡ Some c) [
-        | None ↦ λ _ wrong. never wrong
-        | Some d ↦ λ is _.
-            let is_least = component_least g j d well there is in
-            let walk = is_least.0 in
-            let one = least_joined.least d walk.0 (same_walks steps (joining_steps g) same walk.0 j d ∙ walk.1) in
-            let mine = least_joined.joined in
-            let other = is_least.1 c mine.0 (sym (same_walks steps (joining_steps g) same mine.0 j c) ∙ mine.1) in
-            let equal : d ≡ c = omega (arith, one, other) in
-            is ∙ ap Some equal
-      ] refl (vertex_component g j well there)
+  -- the component's name is the least that is joined
+  pub named : (j c : ℕ) → IsWellFormed g → IsSome (vertex_at g j) → component_of g j ≡ Some c → IsLeastJoined steps j c
+  named j c well there is =
+      let least = component_least g j c well there is in
+      let walk = least.0 in record {
+        joined = (walk.0, same_walks steps (joining_steps g) same walk.0 j c ∙ walk.1);
+        least = λ k n far. least.1 k n (sym (same_walks steps (joining_steps g) same n j k) ∙ far);
+      }
 
 -- ---- lists that are told by members alone
 
@@ -144,50 +134,3 @@ count-same p q (k ∷ ks) same =
     let later = count-same p q ks (λ j there. same j (or_right _ _ there)) in
     let here = ap one_if (same k (or_left _ _ (eq-eqb k k refl))) in
     omega (arith, later, here, sum_by-cons (λ (v : ℕ). one_if (p v)) k ks, sum_by-cons (λ (v : ℕ). one_if (q v)) k ks)
-
--- ---- levels up to a depth
-
-abbrev pub up_to : ℕ → Option ℕ → Bool
-up_to depth o = option_map_or (λ level. nat_le level depth) o false
-
-module _ (p : ℕ → Bool) (depth : ℕ) where
-  deeper : (n : ℕ) → depth < n → up_to depth (least_below p (suc n)) ≡ up_to depth (least_below p n)
-  deeper n deep =
-      ap (up_to depth) (least-more p n)
-      ∙ elim (least_below p n) as (λ o. up_to depth (option_or o (if p n then Some n else None)) ≡ up_to depth o) [
-        | Some m ↦ refl
-        | None ↦ elim (p n) as (λ b. up_to depth (option_or None (if b then Some n else None)) ≡ false) [
-          | true ↦ grind (arith, nat_tests)
-          | false ↦ refl
-        ]
-      ]
-
-  far : (k : ℕ) → up_to depth (least_below p (k + (depth + 1))) ≡ up_to depth (least_below p (depth + 1))
-  far zero = let sum : zero + (depth + 1) ≡ depth + 1 = omega arith in ap (λ n. up_to depth (least_below p n)) sum
-  far (suc k) =
-      let sum : suc k + (depth + 1) ≡ suc (k + (depth + 1)) = omega arith in
-      ap (λ n. up_to depth (least_below p n)) sum ∙ deeper (k + (depth + 1)) (omega arith) ∙ far k
-
-  pub within_depth : (count : ℕ) → up_to depth (least_below p (if nat_lt depth count then depth + 1 else count)) ≡ up_to depth (least_below p count)
-  within_depth count =
-      elim (nat_lt depth count) as (λ b. nat_lt depth count ≡ b → up_to depth (least_below p (if b then depth + 1 else count)) ≡ up_to depth (least_below p count)) [
-        | true ↦ λ below.
-            let less : depth < count = Rattle.std.proofs.lemmas.Bool.ltb-true depth count below in
-            let sum : (count - (depth + 1)) + (depth + 1) ≡ count = omega (arith, less) in
-            sym (far (count - (depth + 1))) ∙ ap (λ n. up_to depth (least_below p n)) sum
-        | false ↦ λ _. refl
-      ] refl
-
-pub some_vertices : (g : Graph) (id : ℕ) (v : Vertex) → Some v ≡ vertex_at g id → 1 ≤ length (keys g.vertices)
-some_vertices g id v there = by_list g.vertices there
-  where
-    by_list : (vs : Map ℕ Vertex) → Some v ≡ at vs id → 1 ≤ length (keys vs)
-    by_list [] none = nothing v (sym none)
-    by_list (e ∷ es) some = omega arith
-
-pub some_bound : (depth count bound : ℕ) → 1 ≤ count → bound ≡ (if nat_lt depth count then depth + 1 else count) → 1 ≤ bound
-some_bound depth count bound some is =
-    elim (nat_lt depth count) as (λ b. bound ≡ (if b then depth + 1 else count) → 1 ≤ bound) [
-      | true ↦ λ one. omega (arith, one)
-      | false ↦ λ all. omega (arith, all, some)
-    ] is

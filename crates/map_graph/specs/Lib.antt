@@ -1,5 +1,4 @@
 pub mod Plain
 pub mod Lines
 pub mod Noted
-pub mod Marked
 pub mod Named

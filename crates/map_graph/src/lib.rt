@@ -4,7 +4,6 @@
 mod edge_lines;
 mod journal;
 mod map_graph;
-mod marked;
 mod object_name;
 mod refused;
 mod shown;

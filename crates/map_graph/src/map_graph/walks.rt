@@ -1,20 +1,17 @@
-ghost use Rattle.std.specs.Prelude.{◌≡◌, ℕ, ◌||◌, ◌==◌, false, map, nat_le, count_by, IfOk, OnOk, if◌then◌else◌, nat_lt, ◌+◌};
-ghost use Rattle.std.specs.List.{filter, filter_map};
-ghost use Rattle.std.specs.Option.{option_map, option_map_or};
+ghost use Rattle.std.specs.Prelude.{◌≡◌, ℕ, ◌++◌, true, IfOk, OnOk};
 ghost use Rattle.gdi_kinds.specs.declared.call.Call.TheVariants as call;
-ghost use Rattle.graph_model.specs.Maps.{at, keys};
+ghost use Rattle.graph_model.specs.Maps.{has, keys};
 ghost use Rattle.graph_model.specs.Walks.{both_ways, graph_steps, joining_steps, steps_over};
 ghost use Rattle.graph_model.specs.WellFormed.{IsWellFormed};
-ghost use Rattle.graph_walks.specs.Steps.{leads};
+ghost use Rattle.graph_walks.specs.Steps.{leads, steps_of};
 ghost use Rattle.map_graph.specs.Plain.{Answers};
 
 use super::MapGraph;
 use crate::ModelRefused;
-use crate::marked::{pairs_of, parts_of, within};
 use edge_index::EdgeKey;
 use gdi_kinds::{NoMemory, NumList, Reply};
 use graph_parts::HeldEdge;
-use graph_walks::{StepRows, components, levels_from};
+use graph_walks::{FlatSteps, Places, StepList, hood_of, levels_of, parts_of};
 
 // The calls that walk over the graph.
 impl MapGraph {
@@ -26,10 +23,8 @@ impl MapGraph {
             return Ok(Reply::NoVertex(id));
         };
         let steps = self.steps()?;
-        let ids = self.ids()?;
-        let levels = levels_from(self.alloc(), &steps, id, ids.len() as u64)?;
-        let pairs = pairs_of(self.alloc(), &ids, &levels)?;
-        Ok(Reply::Levels(pairs))
+        let levels = levels_of(self.alloc(), &steps, id)?;
+        Ok(Reply::Levels(levels))
     }
 
     pub(super) fn hood(&self, id: u64, depth: u64) -> Result<Reply, ModelRefused>
@@ -40,10 +35,7 @@ impl MapGraph {
             return Ok(Reply::NoVertex(id));
         };
         let steps = self.steps()?;
-        let ids = self.ids()?;
-        let bound = bound_of(depth, ids.len() as u64);
-        let levels = levels_from(self.alloc(), &steps, id, bound)?;
-        let hood = within(self.alloc(), &ids, &levels, depth)?;
+        let hood = hood_of(self.alloc(), &steps, id, depth)?;
         Ok(Reply::Ids(hood))
     }
 
@@ -52,10 +44,18 @@ impl MapGraph {
         ensures { IfOk result (Answers self.now call.Parts self.now) }
     {
         let steps = self.joining_steps()?;
-        let ids = self.ids()?;
-        let names = components(self.alloc(), &steps, &ids)?;
-        let parts = parts_of(self.alloc(), &ids, &names)?;
+        let parts = parts_of(self.alloc(), &steps)?;
         Ok(Reply::Parts(parts))
+    }
+
+    // The vertices by place.
+    fn places(&self) -> Result<Places, NoMemory>
+        requires { IsWellFormed self.now.graph }
+        ensures { IfOk result (λ places. places ≡ keys self.now.graph.vertices) }
+    {
+        let ids = self.ids()?;
+        let places = Places::new(self.alloc(), ids)?;
+        Ok(places)
     }
 
     // The vertices, rising.
@@ -66,49 +66,55 @@ impl MapGraph {
     }
 
     // The steps that the edges allow.
-    fn steps(&self) -> Result<StepRows, NoMemory>
-        ensures { IfOk result (λ steps. (i t : ℕ) → leads steps i t ≡ leads (graph_steps self.now.graph) i t) }
+    fn steps(&self) -> Result<FlatSteps, NoMemory>
+        requires { IsWellFormed self.now.graph }
+        ensures ids { IfOk result (λ steps. steps.ids ≡ keys self.now.graph.vertices) }
+        ensures steps { IfOk result (λ steps. (i t : ℕ) → leads (steps_of steps) i t ≡ leads (graph_steps self.now.graph) i t) }
     {
-        let mut steps = StepRows::new(self.alloc());
+        let places = self.places()?;
+        let mut steps = StepList::new(self.alloc(), places, self.edges.len())?;
         for (key, edge) in self.edges.iter() {
             add_steps(&mut steps, *key, edge)?;
         }
-        Ok(steps)
+        let flat = FlatSteps::gather(self.alloc(), steps)?;
+        Ok(flat)
     }
 
     // The steps that the edges allow, and those back.
-    fn joining_steps(&self) -> Result<StepRows, NoMemory>
-        ensures { IfOk result (λ steps. (i t : ℕ) → leads steps i t ≡ leads (joining_steps self.now.graph) i t) }
+    fn joining_steps(&self) -> Result<FlatSteps, NoMemory>
+        requires { IsWellFormed self.now.graph }
+        ensures ids { IfOk result (λ steps. steps.ids ≡ keys self.now.graph.vertices) }
+        ensures steps { IfOk result (λ steps. (i t : ℕ) → leads (steps_of steps) i t ≡ leads (joining_steps self.now.graph) i t) }
     {
-        let mut steps = StepRows::new(self.alloc());
+        let places = self.places()?;
+        let mut steps = StepList::new(self.alloc(), places, self.edges.len().saturating_mul(2))?;
         for (key, edge) in self.edges.iter() {
             add_both_ways(&mut steps, key.source(), edge.target())?;
         }
-        Ok(steps)
+        let flat = FlatSteps::gather(self.alloc(), steps)?;
+        Ok(flat)
     }
 }
 
-// Adds the steps that an edge allows.
-fn add_steps(steps: &mut StepRows, key: EdgeKey, edge: &HeldEdge) -> Result<(), NoMemory>
-    ensures { OnOk result ((i t : ℕ) → leads steps.new i t ≡ (leads steps.old i t || leads (steps_over (key, edge.now)) i t)) }
+// Adds the steps that an edge between vertices allows.
+fn add_steps(steps: &mut StepList, key: EdgeKey, edge: &HeldEdge) -> Result<(), NoMemory>
+    requires source { has steps.old.ids key.source ≡ true }
+    requires target { has steps.old.ids edge.now.target ≡ true }
+    ensures ids { OnOk result (steps.new.ids ≡ steps.old.ids) }
+    ensures steps { OnOk result (steps_of steps.new ≡ steps_of steps.old ++ steps_over (key, edge.now)) }
 {
-    steps.add(key.source(), edge.target())?;
-    if !edge.undirected() {
-        return Ok(());
+    if edge.undirected() {
+        return add_both_ways(steps, key.source(), edge.target());
     }
-    steps.add(edge.target(), key.source())
+    steps.add(key.source(), edge.target())
 }
 
-fn add_both_ways(steps: &mut StepRows, from: u64, to: u64) -> Result<(), NoMemory>
-    ensures { OnOk result ((i t : ℕ) → leads steps.new i t ≡ (leads steps.old i t || leads (both_ways from to) i t)) }
+fn add_both_ways(steps: &mut StepList, from: u64, to: u64) -> Result<(), NoMemory>
+    requires from { has steps.old.ids from ≡ true }
+    requires to { has steps.old.ids to ≡ true }
+    ensures ids { OnOk result (steps.new.ids ≡ steps.old.ids) }
+    ensures steps { OnOk result (steps_of steps.new ≡ steps_of steps.old ++ both_ways from to) }
 {
     steps.add(from, to)?;
     steps.add(to, from)
-}
-
-// How many levels there may be, up to a depth, where there are so many vertices.
-fn bound_of(depth: u64, count: u64) -> u64
-    ensures { result ≡ (if nat_lt depth count then depth + 1 else count) }
-{
-    if depth < count { depth + 1 } else { count }
 }

@@ -1,11 +1,13 @@
-use Rattle.std.proofs.Common.{◌≡◌, ℕ, ◌&&◌, ◌||◌, Some, None, take, if◌then◌else◌}
+use Rattle.std.proofs.Common.{◌≡◌, ℕ, ◌&&◌, ◌||◌, Some, None, length, take, if◌then◌else◌}
 use Rattle.std.specs.Prelude.{is_none}
 use Rattle.std.specs.Option.{option_or}
-use Rattle.graph_model.specs.Maps.{at, has}
+use Rattle.graph_model.specs.Maps.{has}
+use Rattle.graph_walks.specs.Marks.{mark_at}
 use Rattle.graph_walks.proofs.levels.mark_each.Given as goal
 
-abbrev pub invariant-loop-id : goal.invariant-loop-id
-invariant-loop-id l = record {
-  marks : (j : ℕ) → at l.marks j ≡ option_or (at l.fn.marks j) (if has (take l.id-index l.id-items) j then Some l.mark else None);
-  next : (j : ℕ) → has l.next j ≡ (has l.fn.next j || (is_none (at l.fn.marks j) && has (take l.id-index l.id-items) j));
+abbrev pub invariant-loop-place : goal.invariant-loop-place
+invariant-loop-place l = record {
+  len : length l.marks ≡ length l.fn.marks;
+  marks : (j : ℕ) → mark_at l.marks j ≡ option_or (mark_at l.fn.marks j) (if has (take l.place-index l.places) j then Some l.mark else None);
+  next : (j : ℕ) → has l.next.items j ≡ (has l.fn.next.items j || (is_none (mark_at l.fn.marks j) && has (take l.place-index l.places) j));
 }

@@ -1,47 +1,82 @@
-use Rattle.std.proofs.Common.{◌≡◌, suc, ◌+◌, ◌<◌, ◌≤◌, [], ◌∷◌, ◌++◌, length, true, false, sym, ap, subst, ◌∙◌, arith}
-use Rattle.std.proofs.lemmas.Grind.{common_steps}
-use Rattle.graph_model.specs.Maps.{at}
+use Rattle.std.proofs.Common.{◌≡◌, ℕ, suc, ◌+◌, ◌*◌, ◌<◌, ◌≤◌, ◌&&◌, List, length, Some, None, true, if◌then◌else◌, sym, ap, subst, ◌∙◌, arith}
+use Rattle.std.specs.Prelude.{is_none}
+use Rattle.std.proofs.Common.{Vec, Global}
+use Rattle.std.specs.List.{range_with_len, list_any, slice_get}
+use Rattle.std.specs.Option.{option_or}
+use Rattle.graph_walks.specs.Marks.{mark_at}
 use Rattle.graph_walks.specs.Naming.{IsNaming}
-use Rattle.graph_walks.proofs.Naming.{IsSpreading, spread-start, spread-more, spread-not, spread-end, fewer, no_more, smaller, no_front, at-has}
-use Rattle.graph_walks.proofs.Marking.{seen_some, seen_none}
+use Rattle.graph_walks.specs.Steps.{leads, LeadsInto}
+use Rattle.graph_walks.proofs.Naming.{IsSpreading, spread-start, spread-more, spread-not, spread-end, fewer, no_more, smaller, no_front, at-has, one_if_some, unnamed}
+use Rattle.graph_walks.proofs.Renaming.{range-has, range-rises, range-get}
+use Rattle.graph_walks.proofs.Bools.{seen_some, seen_none, from_none}
 use Rattle.graph_walks.proofs.spreading.spread.Goals as goal
 
-pub returns-then-not-branch : goal.returns-then-not-branch
-returns-then-not-branch c =
+into : (n : ℕ) (hops : List (ℕ × ℕ)) → ((i t : ℕ) → leads hops i t ≡ true → (i < n) × (t < n)) → LeadsInto hops (range_with_len 0 n)
+into n hops within = λ i t led. range-has 0 n t (omega arith) (let inside = (within i t led).1 in omega (arith, inside))
+
+place_is : (n place : ℕ) → place < n → slice_get (range_with_len 0 n) place ≡ Some place
+place_is n place below = range-get 0 n place below ∙ (let same : 0 + place ≡ place = omega arith in ap Some same)
+
+pub returns-then-not-mark-clause-more : goal.returns-then-not-mark-clause-more
+returns-then-not-mark-clause-more c =
+    let n = length c.args.steps.now.ids in
     let up : suc c.args.place ≡ c.args.place + 1 = omega arith in
-    let taken : c.in_ok-mark.field-0 ≡ false = grind (arith, common_steps, c.if-not-branch.true) in
-    subst (λ n. IsNaming c.args.steps.now c.args.ids.now n c.mark.new.self) up
-    (spread-not c.args.steps.now c.args.ids.now c.requires.rising c.requires.two_way c.requires.into c.args.place c.at-least.result.now c.at-least.ensures
-    (at-has c.args.ids.now c.args.place c.at-least.result.now c.at-least.ensures) c.args.names.now c.requires.so_far
-    (seen_some (at c.args.names.now c.at-least.result.now) (sym c.in_ok-mark.ensures.free ∙ taken)) c.mark.new.self c.in_ok-mark.ensures.marks)
+    let is = place_is n c.args.place c.requires.place in
+    subst (λ k. IsNaming c.args.steps.now.hops (range_with_len 0 n) k (mark_at c.mark.new.self)) up
+    (spread-not c.args.steps.now.hops (range_with_len 0 n) (range-rises 0 n) c.requires.two_way (into n c.args.steps.now.hops c.len-count.ensures.within) c.args.place c.args.place is
+    (at-has (range_with_len 0 n) c.args.place c.args.place is) (mark_at c.args.names.now) c.requires.so_far (seen_some (mark_at c.args.names.now c.args.place) (sym c.mark.ensures.free ∙ c.if-not-mark.true))
+    (mark_at c.mark.new.self) c.mark.ensures.marks)
 
-pub loop-alloc-init : goal.loop-alloc-init
-loop-alloc-init c =
-    let free : c.in_ok-mark.field-0 ≡ true = grind (arith, common_steps, c.if-not-branch.false) in
-    let one = c.in_ok-push.ensures.ok ∙ ap (λ xs. xs ++ c.at-least.result.now ∷ []) c.new-front.ensures in
-    subst (λ front. IsSpreading c.args.steps.now c.at-least.result.now c.args.names.now c.mark.new.self front) (sym one)
-    (spread-start c.args.steps.now c.args.ids.now c.requires.two_way c.requires.into c.at-least.result.now c.args.names.now c.args.place c.mark.new.self c.requires.so_far
-    (seen_none (at c.args.names.now c.at-least.result.now) (sym c.in_ok-mark.ensures.free ∙ free)) c.in_ok-mark.ensures.marks)
+pub loop-next-init : goal.loop-next-init
+loop-next-init c =
+    let n = length c.args.steps.now.ids in
+    record {
+      len = c.mark.ensures.len;
+      spreads = subst (λ (front : List ℕ). IsSpreading c.args.steps.now.hops c.args.place (mark_at c.args.names.now) (mark_at c.mark.new.self) front) (sym c.in_ok-front.ensures.items)
+          (spread-start c.args.steps.now.hops (range_with_len 0 n) c.requires.two_way (into n c.args.steps.now.hops c.len-count.ensures.within) c.args.place (mark_at c.args.names.now) c.args.place (mark_at c.mark.new.self) c.requires.so_far
+          (seen_none (mark_at c.args.names.now c.args.place) (sym c.mark.ensures.free ∙ c.if-not-mark.false)) c.mark.ensures.marks);
+    }
 
-pub loop-alloc-preserved : goal.loop-alloc-preserved
-loop-alloc-preserved c =
-    spread-more c.args.steps.now c.args.ids.now c.requires.two_way c.requires.into c.at-least.result.now c.args.names.now c.loop-alloc.names c.next_front.new.marks c.loop-alloc.front c.in_ok-front.front
-    c.loop-alloc.invariant c.in_ok-front.ensures.marks c.in_ok-front.ensures.next
+pub loop-next-preserved : goal.loop-next-preserved
+loop-next-preserved c =
+    let n = length c.args.steps.now.ids in
+    record {
+      len = c.in_ok-next_front.ensures.len ∙ c.loop-next.invariant.len;
+      spreads = subst (λ (v : Vec ℕ Global). IsSpreading c.args.steps.now.hops c.args.place (mark_at c.args.names.now) (mark_at c.next_front.new.marks) v.items) (sym c.swap.ensures.x_after)
+          (spread-more c.args.steps.now.hops (range_with_len 0 n) c.requires.two_way (into n c.args.steps.now.hops c.len-count.ensures.within) c.args.place (mark_at c.args.names.now) (mark_at c.loop-next.names)
+          (mark_at c.next_front.new.marks) c.loop-next.front.items c.next_front.new.next.items c.loop-next.invariant.spreads
+          (λ j. c.in_ok-next_front.ensures.marks j
+          ∙ ap (λ (vs : List ℕ). option_or (mark_at c.loop-next.names j) (if list_any (λ x. leads c.args.steps.now.hops x j) vs then Some c.args.place else None)) c.deref.ensures.value)
+          (λ j. c.in_ok-next_front.ensures.next j
+          ∙ from_none c.clear.new.self.items j (is_none (mark_at c.loop-next.names j) && list_any (λ x. leads c.args.steps.now.hops x j) c.deref.result.now) c.clear.ensures.items
+          ∙ ap (λ (vs : List ℕ). is_none (mark_at c.loop-next.names j) && list_any (λ x. leads c.args.steps.now.hops x j) vs) c.deref.ensures.value));
+    }
 
-pub loop-alloc-smaller : goal.loop-alloc-smaller
-loop-alloc-smaller c =
-    let some : 0 < length c.loop-alloc.front = omega (arith, c.loop-alloc-test.true, c.len.ensures) in
-    smaller c.loop-alloc.front c.in_ok-front.front _ _ some
-    (fewer c.args.steps.now c.args.ids.now c.requires.two_way c.requires.into c.at-least.result.now c.args.names.now c.loop-alloc.names c.next_front.new.marks c.loop-alloc.front c.in_ok-front.front
-    c.loop-alloc.invariant c.in_ok-front.ensures.marks c.in_ok-front.ensures.next)
-    (no_more c.args.steps.now c.args.ids.now c.requires.two_way c.requires.into c.at-least.result.now c.args.names.now c.loop-alloc.names c.next_front.new.marks c.loop-alloc.front c.in_ok-front.front
-    c.loop-alloc.invariant c.in_ok-front.ensures.marks c.in_ok-front.ensures.next)
+pub loop-next-smaller : goal.loop-next-smaller
+loop-next-smaller c =
+    let n = length c.args.steps.now.ids in
+    let some : 0 < length c.loop-next.front.items = omega (arith, c.loop-next-test.true, c.len.ensures, c.loop-next.front.ok.0) in
+    let marked = λ (j : ℕ).
+    c.in_ok-next_front.ensures.marks j
+    ∙ ap (λ (vs : List ℕ). option_or (mark_at c.loop-next.names j) (if list_any (λ x. leads c.args.steps.now.hops x j) vs then Some c.args.place else None)) c.deref.ensures.value in
+    let fresh = λ (j : ℕ).
+    c.in_ok-next_front.ensures.next j
+    ∙ from_none c.clear.new.self.items j (is_none (mark_at c.loop-next.names j) && list_any (λ x. leads c.args.steps.now.hops x j) c.deref.result.now) c.clear.ensures.items
+    ∙ ap (λ (vs : List ℕ). is_none (mark_at c.loop-next.names j) && list_any (λ x. leads c.args.steps.now.hops x j) vs) c.deref.ensures.value in
+    subst (λ (v : Vec ℕ Global). 2 * unnamed (mark_at c.next_front.new.marks) (range_with_len 0 n) + one_if_some v.items < 2 * unnamed (mark_at c.loop-next.names) (range_with_len 0 n) + one_if_some c.loop-next.front.items) (sym c.swap.ensures.x_after)
+    (smaller c.loop-next.front.items c.next_front.new.next.items _ _ some
+    (fewer c.args.steps.now.hops (range_with_len 0 n) c.requires.two_way (into n c.args.steps.now.hops c.len-count.ensures.within) c.args.place (mark_at c.args.names.now) (mark_at c.loop-next.names)
+    (mark_at c.next_front.new.marks) c.loop-next.front.items c.next_front.new.next.items c.loop-next.invariant.spreads marked fresh)
+    (no_more c.args.steps.now.hops (range_with_len 0 n) c.requires.two_way (into n c.args.steps.now.hops c.len-count.ensures.within) c.args.place (mark_at c.args.names.now) (mark_at c.loop-next.names)
+    (mark_at c.next_front.new.marks) c.loop-next.front.items c.next_front.new.next.items c.loop-next.invariant.spreads marked fresh))
 
-pub returns : goal.returns
-returns c =
+pub returns-clause-more : goal.returns-clause-more
+returns-clause-more c =
+    let n = length c.args.steps.now.ids in
     let up : suc c.args.place ≡ c.args.place + 1 = omega arith in
-    let none : length c.loop-alloc.front ≤ 0 = omega (arith, c.loop-alloc-test.false, c.len.ensures) in
-    subst (λ n. IsNaming c.args.steps.now c.args.ids.now n c.loop-alloc.names) up
-    (spread-end c.args.steps.now c.args.ids.now c.requires.rising c.requires.two_way c.requires.into c.args.place c.at-least.result.now c.at-least.ensures
-    (at-has c.args.ids.now c.args.place c.at-least.result.now c.at-least.ensures) c.args.names.now c.requires.so_far c.loop-alloc.names
-    (subst (λ front. IsSpreading c.args.steps.now c.at-least.result.now c.args.names.now c.loop-alloc.names front) (no_front c.loop-alloc.front none) c.loop-alloc.invariant))
+    let is = place_is n c.args.place c.requires.place in
+    let none : length c.loop-next.front.items ≤ 0 = omega (arith, c.loop-next-test.false, c.len.ensures, c.loop-next.front.ok.0) in
+    subst (λ k. IsNaming c.args.steps.now.hops (range_with_len 0 n) k (mark_at c.loop-next.names)) up
+    (spread-end c.args.steps.now.hops (range_with_len 0 n) (range-rises 0 n) c.requires.two_way (into n c.args.steps.now.hops c.len-count.ensures.within) c.args.place c.args.place is
+    (at-has (range_with_len 0 n) c.args.place c.args.place is) (mark_at c.args.names.now) c.requires.so_far (mark_at c.loop-next.names)
+    (subst (λ (front : List ℕ). IsSpreading c.args.steps.now.hops c.args.place (mark_at c.args.names.now) (mark_at c.loop-next.names) front) (no_front c.loop-next.front.items none) c.loop-next.invariant.spreads))
