@@ -298,6 +298,9 @@ fn drills_are_told(rt: HostRuntime) -> Result<(), Fail> {
     let alloc = rt.alloc();
     let tiny = "vertices 1\nedges 2\nparts 1\ndeepest 0\nfull 0\n";
     let small = "vertices 4\nedges 6\nparts 1\ndeepest 2\nfull 0\n";
+    let large = "vertices 10000\nedges 15000\nparts 240\ndeepest 6\nfull 0\n";
+    // From this seed each draw is the same vertex.
+    let heavy = "vertices 10000\nedges 15000\nparts 5001\ndeepest 0\nfull 0\n";
     for (words, limit, status, written) in [
         (["drill", "1", "0"].as_slice(), 1000, Status::Done, tiny),
         (["drill", "4", "1"].as_slice(), 1000, Status::Done, small),
@@ -306,6 +309,18 @@ fn drills_are_told(rt: HostRuntime) -> Result<(), Fail> {
             1000,
             Status::Done,
             small,
+        ),
+        (
+            ["drill", "10000", "7"].as_slice(),
+            1000,
+            Status::Done,
+            large,
+        ),
+        (
+            ["drill", "10000", "65536"].as_slice(),
+            1000,
+            Status::Done,
+            heavy,
         ),
         (
             ["drill", "4", "1"].as_slice(),
