@@ -59,7 +59,9 @@ fn run_loads<R: Files + Alloc<A = Global> + Print>(rt: &R, geometry: Geometry) -
         Some("both_ways.edges"),
         "nicknames",
     )?;
-    run(rt, geometry, Some("no_records.vertices"), None, "first")
+    run(rt, geometry, Some("no_records.vertices"), None, "first")?;
+    let ties = Some("social.edges");
+    run(rt, geometry, Some("social.vertices"), ties, "social")
 }
 
 fn run_faulty<R: Files + Alloc<A = Global> + Print>(rt: &R, geometry: Geometry) -> io::Result<()> {
