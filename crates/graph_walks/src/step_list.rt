@@ -53,7 +53,8 @@ impl StepList {
         let Some(to) = self.places.place(to) else {
             return Ok(());
         };
-        let count = self.places.len();
+        // This tells that places fit.
+        let _count = self.places.len();
         self.hops.push((from as u32, to as u32))?;
         Ok(())
     }
