@@ -2,7 +2,7 @@
 # How long `levels` and `parts` take on a graph of 100,000 vertices and 1,000,000 edges, beside python's igraph on the same
 # graph (Debian: python3-igraph), and, where that isn't there, beside `sort` of the list of edges by number. All times are
 # the processor's. The program is run on a script without walks as well, and what that takes is taken off; each walk is
-# made three times. It wants a program that runs on load files: ./gdi prove, or another whose path PROGRAM has. Give a
+# made twenty times. It wants a program that runs on load files: ./gdi prove, or another whose path PROGRAM has. Give a
 # number of vertices and a number of edges to try other sizes.
 set -eu
 top=$(cd "$(dirname "$0")/.." && pwd)
@@ -19,7 +19,7 @@ except ImportError:
 program, folder = sys.argv[1], sys.argv[2]
 vertices, edges = int(sys.argv[3]), int(sys.argv[4])
 path = lambda name: os.path.join(folder, name)
-rounds = 3
+rounds = 20
 
 # Every other edge leads onwards to one of the next 200 vertices, and the others anywhere: few levels, one large part.
 ends = [(n * 7919 % vertices, (n * 7919 + 1 + n % 200) % vertices if n % 2 else (n * 104729 + 1) % vertices) for n in range(edges)]
@@ -44,8 +44,9 @@ def run(calls):
 
 def own(job):
     start = time.process_time()
-    job()
-    return time.process_time() - start
+    for _ in range(rounds):
+        job()
+    return (time.process_time() - start) / rounds
 
 without = run(["vertices"])
 ours = {call: (run([call] * rounds) - without) / rounds for call in ("levels 0", "parts")}
