@@ -1,4 +1,6 @@
 pub mod Looking
 pub mod VertexHere
 pub mod Lines
+pub mod Values
 pub mod Showing
+pub mod Getting

@@ -3,6 +3,7 @@
 
 mod calls;
 mod finding;
+mod got;
 mod shown;
 
 pub use calls::has_vertex::has_vertex;
