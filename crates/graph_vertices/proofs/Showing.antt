@@ -36,11 +36,11 @@ use Rattle.graph_vertices.specs.Finding.{FindsNames, FindsVertex}
 use Rattle.graph_vertices.proofs.Lines.{line_in, lines_same, name_in, props_below}
 use Rattle.graph_vertices.proofs.VertexHere.{agrees_before}
 
-from_map : {X Y : Type 0} (f : X → Y) (y : Y) (o : Option X) → Some y ≡ option_map f o → (x : X) × (o ≡ Some x) × (y ≡ f x)
+pub from_map : {X Y : Type 0} (f : X → Y) (y : Y) (o : Option X) → Some y ≡ option_map f o → (x : X) × (o ≡ Some x) × (y ≡ f x)
 from_map f y (Some x) is = (x, refl, cc)
 from_map f y None never = absurd cc
 
-from_none : {X Y : Type 0} (f : X → Y) (o : Option X) → None ≡ option_map f o → o ≡ None
+pub from_none : {X Y : Type 0} (f : X → Y) (o : Option X) → None ≡ option_map f o → o ≡ None
 from_none f None is = refl
 from_none f (Some x) never = absurd cc
 

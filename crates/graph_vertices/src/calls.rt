@@ -1,3 +1,4 @@
 pub(crate) mod has_vertex;
+pub(crate) mod vertex_get;
 pub(crate) mod vertex_props;
 pub(crate) mod vertex_tags;

@@ -7,9 +7,9 @@ ghost use Rattle.graph_law.specs.Calls.{Stands};
 ghost use Rattle.graph_law.specs.Law.{Fits};
 ghost use Rattle.graph_vertices.specs.Finding.{FindsNames, FindsType, FindsVertex, IsAbout};
 
+use gdi_kinds::Name;
 use graph_law::GraphLaw;
 use held_objects::look;
-use gdi_kinds::Name;
 use holder_codec::{MetaHolder, VertexHolder};
 use id_hash::find;
 use meta_tables::{PropType, prop};

@@ -7,5 +7,6 @@ mod got;
 mod shown;
 
 pub use calls::has_vertex::has_vertex;
+pub use calls::vertex_get::vertex_get;
 pub use calls::vertex_props::vertex_props;
 pub use calls::vertex_tags::vertex_tags;
