@@ -4,3 +4,4 @@ pub mod Lines
 pub mod Values
 pub mod Showing
 pub mod Getting
+pub mod Listing
