@@ -7,7 +7,7 @@ use fabric::Window;
 use gdi_kinds::{Kind, Name, Reply};
 use graph_law::GraphLaw;
 use graph_names::{new_label, new_type};
-use graph_vertices::{has_vertex, vertex_props, vertex_tags};
+use graph_vertices::{has_vertex, vertex_get, vertex_props, vertex_tags};
 use object_store::{PlainStore, Store};
 use object_txn::WindowStore;
 use rma_layout::Geometry;
@@ -23,6 +23,7 @@ struct Replies {
     has: Reply,
     tags: Reply,
     props: Reply,
+    got: Reply,
 }
 
 fn name_and_ask<S: Store<GraphLaw>>(
@@ -39,6 +40,7 @@ fn name_and_ask<S: Store<GraphLaw>>(
     let has = has_vertex(alloc, store, 5)?;
     let tags = vertex_tags(alloc, store, 5)?;
     let props = vertex_props(alloc, store, 5)?;
+    let got = vertex_get(alloc, store, 5, name)?;
     store.abort();
     Ok(Replies {
         label,
@@ -47,6 +49,7 @@ fn name_and_ask<S: Store<GraphLaw>>(
         has,
         tags,
         props,
+        got,
     })
 }
 
@@ -63,6 +66,7 @@ fn names_are_made_once(rt: HostRuntime) -> Result<(), Fail> {
     assert!(rt; matches!(&replies.has, Reply::No));
     assert!(rt; matches!(&replies.tags, Reply::NoVertex(5)));
     assert!(rt; matches!(&replies.props, Reply::NoVertex(5)));
+    assert!(rt; matches!(&replies.got, Reply::NoVertex(5)));
     Ok(())
 }
 

@@ -1,5 +1,5 @@
 -- The calls that show a vertex, on a store of a graph.
-use Rattle.std.proofs.Common.{◌≡◌, ◌∙◌, ℕ, ◌<◌, List, length, map, Option, Some, None, refl, sym, ap, subst, inl, inr}
+use Rattle.std.proofs.Common.{◌≡◌, ◌∙◌, ℕ, ◌<◌, List, length, map, Option, Some, None, refl, sym, ap, subst, ◌⊎◌, inl, inr}
 use Rattle.std.specs.List.{AllByRecursion}
 use Rattle.std.specs.Option.{option_map}
 use Rattle.std.proofs.lemmas.List.{length-map}
@@ -9,8 +9,8 @@ use Rattle.gdi_kinds.specs.declared.reply.Reply.{Reply}
 use Rattle.gdi_kinds.specs.declared.reply.Reply.TheVariants.{Labels, NoVertex, Props}
 use Rattle.rma_layout.specs.Shape.{Shape}
 use Rattle.rma_layout.specs.Ranges.{IsInRange}
-use Rattle.rma_layout.specs.Placement.{metadata}
-use Rattle.object_words.specs.Contents.{Agrees, Contents, overlay}
+use Rattle.rma_layout.specs.Placement.{Place, metadata}
+use Rattle.object_words.specs.Contents.{Agrees, Contents, overlay, words_at}
 use Rattle.graph_model.specs.Calls.{steps_of}
 use Rattle.graph_model.specs.Graph.{Graph, Name, PropType, Vertex, vertex_at}
 use Rattle.graph_model.specs.Lookups as shown
@@ -30,17 +30,17 @@ use Rattle.meta_tables.specs.Names.{names_of}
 use Rattle.graph_law.specs.declared.law.Noted.{Noted}
 use Rattle.graph_law.specs.Calls.{AppliesCall, Stands}
 use Rattle.graph_law.specs.Law.{Fits}
-use Rattle.graph_law.specs.Reach.{IsAsked}
+use Rattle.graph_law.specs.Reach.{IsAsked, IsReached}
 use Rattle.graph_law.proofs.Looking.{bucket_reached, looks_applied, may_be_here, names_reached, vertex_reached}
 use Rattle.graph_vertices.specs.Finding.{FindsNames, FindsVertex}
 use Rattle.graph_vertices.proofs.Lines.{line_in, lines_same, name_in, props_below}
 use Rattle.graph_vertices.proofs.VertexHere.{agrees_before}
 
-from_map : {X Y : Type 0} (f : X → Y) (y : Y) (o : Option X) → Some y ≡ option_map f o → (x : X) × (o ≡ Some x) × (y ≡ f x)
+pub from_map : {X Y : Type 0} (f : X → Y) (y : Y) (o : Option X) → Some y ≡ option_map f o → (x : X) × (o ≡ Some x) × (y ≡ f x)
 from_map f y (Some x) is = (x, refl, cc)
 from_map f y None never = absurd cc
 
-from_none : {X Y : Type 0} (f : X → Y) (o : Option X) → None ≡ option_map f o → o ≡ None
+pub from_none : {X Y : Type 0} (f : X → Y) (o : Option X) → None ≡ option_map f o → o ≡ None
 from_none f None is = refl
 from_none f (Some x) never = absurd cc
 
@@ -68,14 +68,26 @@ module _ (shape : Shape) (call : Call) (id : ℕ) (show : Graph → Vertex → R
 
 module _ {id : ℕ} {old mid : StoreState Noted} (ranges : IsInRange old.shape) where
   module _ (call : Call) (show : Graph → Vertex → Reply) (asked : (g : Graph) → IsAsked g call id) (steps : (g : Graph) → steps_of old.shape g call ≡ ShowsVertex id show g (vertex_at g id)) where
+    looked : {o : Option VertexHolder} → FindsVertex id old mid o → (store : Contents) (g : Graph) (is : Represents old.shape (overlay store old.writes) g) → Agrees mid.reads store → (place : Place)
+        → IsReached old.shape g call is.vertices is.edges place ⊎ (words_at mid.reads place ≡ words_at old.reads place)
+    looked found store g is agrees place = elim (found.reads store g is agrees place) [
+      | inl here ↦ inl (bucket_reached g call ranges is id (asked g) here)
+      | inr (inl here) ↦ inl (vertex_reached g call ranges is id (asked g) here.0 here.1)
+      | inr (inr unread) ↦ inr unread
+    ]
+
     pub none_applied : FindsVertex id old mid None → AppliesCall call old mid (NoVertex id)
     none_applied found = looks_applied found.looks (leaves_graph old.shape call id show steps)
         (λ store g is agrees. replies old.shape call id show steps g None (from_none (holder_of g is.vertices is.edges id) (vertex_at g id) (found.vertex store g is agrees)))
-        (λ store g is agrees place. elim (found.reads store g is agrees place) [
-          | inl here ↦ inl (bucket_reached g call ranges is id (asked g) here)
-          | inr (inl here) ↦ inl (vertex_reached g call ranges is id (asked g) here.0 here.1)
-          | inr (inr unread) ↦ inr unread
-        ])
+        (looked found)
+
+    pub seen_applied : {vertex : VertexHolder} {reply : Reply} → FindsVertex id old mid (Some vertex)
+        → ((g : Graph) (vertices : VertexObjects) (edges : EdgeObjects) (v : Vertex) → vertex ≡ holder_of g vertices edges id v → reply ≡ show g v) → AppliesCall call old mid reply
+    seen_applied {vertex} {reply} found shows = looks_applied found.looks (leaves_graph old.shape call id show steps)
+        (λ store g is agrees.
+        let v = from_map (holder_of g is.vertices is.edges id) vertex (vertex_at g id) (found.vertex store g is agrees) in
+        shows g is.vertices is.edges v.0 v.2 ∙ replies old.shape call id show steps g (Some v.0) v.1)
+        (looked found)
 
     pub shown_applied : {new : StoreState Noted} {vertex : VertexHolder} {names : MetaHolder} {reply : Reply} → FindsVertex id old mid (Some vertex) → FindsNames mid new names → Reaches (At metadata mid.shape) (λ _. ⊥) mid new
         → ((g : Graph) (vertices : VertexObjects) (edges : EdgeObjects) (v : Vertex) → names ≡ names_of g → vertex ≡ holder_of g vertices edges id v → reply ≡ show g v) → AppliesCall call old new reply

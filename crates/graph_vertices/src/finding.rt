@@ -5,12 +5,14 @@ ghost use Rattle.object_store.specs.Works.{At, Nowhere, Works};
 ghost use Rattle.held_objects.specs.Knows.{Knows};
 ghost use Rattle.graph_law.specs.Calls.{Stands};
 ghost use Rattle.graph_law.specs.Law.{Fits};
-ghost use Rattle.graph_vertices.specs.Finding.{FindsNames, FindsVertex, IsAbout};
+ghost use Rattle.graph_vertices.specs.Finding.{FindsNames, FindsType, FindsVertex, IsAbout};
 
+use gdi_kinds::Name;
 use graph_law::GraphLaw;
 use held_objects::look;
 use holder_codec::{MetaHolder, VertexHolder};
 use id_hash::find;
+use meta_tables::{PropType, prop};
 use object_store::Store;
 use rma_layout::DPtr;
 use std::alloc::Global;
@@ -52,4 +54,19 @@ pub(crate) fn find_names<S: Store<GraphLaw>>(
     geometry.keeps_ranges();
     let names = look(alloc, store, DPtr::new(0, 0))?;
     Ok(names)
+}
+
+/// The property type of a name.
+pub(crate) fn find_type<S: Store<GraphLaw>>(
+    alloc: Global,
+    store: &mut S,
+    name: &Name,
+) -> Result<Option<PropType>, S::Refused>
+    requires begun { (S.state store.old).phase ≢ Idle }
+    requires stands { Knows Stands (S.state store.old) }
+    ensures works { Works Fits S.state S.explains S.says (At metadata) Nowhere store.old store.new result }
+    ensures found { IfOk result (λ found. FindsType name.now (S.state store.old) (S.state store.new) found) }
+{
+    let found = prop(alloc, store, name)?;
+    Ok(found)
 }

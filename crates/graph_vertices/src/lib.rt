@@ -3,8 +3,13 @@
 
 mod calls;
 mod finding;
+mod got;
+mod listed;
 mod shown;
 
 pub use calls::has_vertex::has_vertex;
+pub use calls::vertex_degree::vertex_degree;
+pub use calls::vertex_get::vertex_get;
+pub use calls::vertex_near::vertex_near;
 pub use calls::vertex_props::vertex_props;
 pub use calls::vertex_tags::vertex_tags;
