@@ -1,0 +1,26 @@
+-- A graph as far as walks and counts ask of it.
+use Rattle.std.specs.Prelude.{◌≡◌, ℕ, List, length}
+use Rattle.graph_model.specs.Maps.{keys}
+use Rattle.graph_model.specs.Graph.{Graph}
+use Rattle.graph_model.specs.Walks.{graph_steps, joining_steps}
+use Rattle.graph_walks.specs.Steps.{leads}
+
+pub record Outline : Type 0 where
+  -- the identifiers of the vertices, rising
+  pub ids : List ℕ
+  -- the steps along the edges, and those with directions ignored: in which order, and how often, tells nothing
+  pub steps : List (ℕ × ℕ)
+  pub joining : List (ℕ × ℕ)
+  -- how many edges there are
+  pub arcs : ℕ
+
+-- one list has a step from i to t where the other has
+abbrev pub AreSameSteps : List (ℕ × ℕ) → List (ℕ × ℕ) → Type 0
+AreSameSteps a b = (i t : ℕ) → leads a i t ≡ leads b i t
+
+-- the outline is that of a graph
+pub record IsOf (g : Graph) (outline : Outline) : Type 0 where
+  pub ids : outline.ids ≡ keys g.vertices
+  pub steps : AreSameSteps outline.steps (graph_steps g)
+  pub joining : AreSameSteps outline.joining (joining_steps g)
+  pub arcs : outline.arcs ≡ length g.edges
