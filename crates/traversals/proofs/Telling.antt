@@ -1,5 +1,5 @@
 -- What an outline tells is what its graph's calls answer.
-use Rattle.std.proofs.Common.{◌≡◌, ℕ, ◌<◌, Bool, true, false, cond, List, [], ◌∷◌, length, map, Option, Some, None, is_some, if◌then◌else◌, refl, sym, ap, ◌∙◌, arith}
+use Rattle.std.proofs.Common.{◌≡◌, ℕ, Bool, true, false, cond, List, [], ◌∷◌, length, map, Option, Some, None, is_some, if◌then◌else◌, refl, sym, ap, ◌∙◌, arith}
 use Rattle.std.specs.Prelude.{◌==◌, IsSome, MatchOption, count_by, unwrap_or}
 use Rattle.std.specs.List.{list_any, filter, filter_map, slice_get}
 use Rattle.std.specs.Option.{option_map, option_map_or}
@@ -12,7 +12,6 @@ use Rattle.gdi_kinds.specs.declared.call.Call.{Call}
 use Rattle.gdi_kinds.specs.declared.call.Call.TheVariants as call
 use Rattle.gdi_kinds.specs.declared.reply.Reply.{Reply}
 use Rattle.gdi_kinds.specs.declared.reply.Reply.TheVariants as reply
-use Rattle.rma_layout.specs.Shape.{Shape}
 use Rattle.graph_model.specs.Maps.{keys, has}
 use Rattle.graph_model.specs.Graph.{Graph, vertex_at, is_vertex}
 use Rattle.graph_model.specs.WellFormed.{IsWellFormed}

@@ -38,7 +38,10 @@ fn walks(rt: HostRuntime) -> Result<(), Fail> {
     let Some(Reply::Levels(levels)) = flat.answer(alloc, &Call::Levels { id: 2 })? else {
         return Err("levels")?;
     };
-    assert_eq!(rt; levels.as_slice(), [pair(2, 0), pair(5, 1), pair(9, 2)].as_slice());
+    assert_eq!(rt;
+        levels.as_slice(),
+        [pair(2, 0), pair(5, 1), pair(9, 2)].as_slice()
+    );
     let Some(Reply::Ids(hood)) = flat.answer(alloc, &Call::Hood { id: 9, depth: 1 })? else {
         return Err("hood")?;
     };

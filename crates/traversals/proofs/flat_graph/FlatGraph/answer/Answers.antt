@@ -1,4 +1,3 @@
-use Rattle.std.proofs.Common.{refl}
 use Rattle.gdi_kinds.specs.declared.call.Call.TheVariants as call
 use Rattle.gdi_kinds.specs.declared.reply.Reply.TheVariants as reply
 use Rattle.traversals.proofs.Telling.{tells-same, vertices-done, arcs-done}

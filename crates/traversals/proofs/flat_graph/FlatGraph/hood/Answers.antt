@@ -1,4 +1,4 @@
-use Rattle.std.proofs.Common.{◌≡◌, ℕ, List, length, sym, ap, ◌∙◌}
+use Rattle.std.proofs.Common.{ℕ, List, length, sym, ap, ◌∙◌}
 use Rattle.std.specs.List.{filter}
 use Rattle.graph_walks.specs.Reached.{level_by, is_within}
 use Rattle.traversals.proofs.Telling.{hood-no_vertex, hood-done}

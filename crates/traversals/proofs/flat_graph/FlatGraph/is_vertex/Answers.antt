@@ -1,4 +1,4 @@
-use Rattle.std.proofs.Common.{◌≡◌, List, ℕ, ap, ◌∙◌}
+use Rattle.std.proofs.Common.{List, ℕ, ap, ◌∙◌}
 use Rattle.graph_model.specs.Maps.{has}
 use Rattle.traversals.proofs.Telling.{place-tells}
 use Rattle.traversals.proofs.flat_graph.FlatGraph.is_vertex.Goals as goal

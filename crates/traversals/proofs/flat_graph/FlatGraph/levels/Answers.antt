@@ -1,7 +1,6 @@
-use Rattle.std.proofs.Common.{◌≡◌, ℕ, List, length, sym, ap, ◌∙◌}
+use Rattle.std.proofs.Common.{ℕ, List, length, sym, ap, ◌∙◌}
 use Rattle.std.specs.List.{filter_map}
 use Rattle.graph_walks.specs.Reached.{level_by, pair_if}
-use Rattle.graph_walks.specs.Steps.{steps_of}
 use Rattle.traversals.proofs.Telling.{levels-no_vertex, levels-done}
 use Rattle.traversals.proofs.flat_graph.FlatGraph.levels.Goals as goal
 

@@ -1,4 +1,4 @@
-use Rattle.std.proofs.Common.{◌≡◌, ℕ, List, sym, ap, subst, ◌∙◌}
+use Rattle.std.proofs.Common.{ℕ, List, sym, ap, subst, ◌∙◌}
 use Rattle.graph_walks.specs.Reached.{AreNames, parts_by}
 use Rattle.graph_walks.specs.Steps.{steps_of}
 use Rattle.traversals.proofs.Telling.{parts-done}
