@@ -4,10 +4,10 @@ ghost use Rattle.graph_model.specs.Graph.{Graph};
 ghost use Rattle.graph_model.specs.Maps.{IsSet, keys};
 ghost use Rattle.graph_walks.specs.Steps.{IsTwoWay, steps_of};
 ghost use Rattle.traversals.specs.Edges.{IsBetween, both_by, line_of, steps_by};
-ghost use Rattle.traversals.specs.Outline.{AreSameSteps, IsOf};
+ghost use Rattle.traversals.specs.Outline.{AreSameSteps, IsOf, labels_of};
 
-use crate::FlatEdge;
 use crate::gathering::{joining_along, steps_along};
+use crate::{FlatEdge, LabelRows};
 use gdi_kinds::{Duplicate, NoMemory, NumList};
 use graph_walks::{FlatSteps, Places};
 use std::alloc::Global;
@@ -20,31 +20,41 @@ pub struct FlatGraph {
     steps: FlatSteps,
     // Those with directions ignored.
     joining: FlatSteps,
+    // Of the vertices by place, which both steps have.
+    labels: LabelRows,
     edges: usize,
 }
 
 impl Model for FlatGraph {
-    ghost use Rattle.std.specs.Prelude.{◌≡◌};
+    ghost use Rattle.std.specs.Prelude.{◌≡◌, length};
     ghost use Rattle.graph_walks.specs.Steps.{IsTwoWay, steps_of};
     ghost use Rattle.traversals.specs.Outline.{Outline};
 
     ghost Value = { Outline };
 
-    ghost view = { λ flat. record { ids = flat.steps.ids; steps = steps_of flat.steps; joining = steps_of flat.joining; arcs = flat.edges } };
+    ghost view = { λ flat. record { ids = flat.steps.ids; labels = flat.labels; steps = steps_of flat.steps; joining = steps_of flat.joining; arcs = flat.edges } };
 
-    ghost invariant = { λ flat. (flat.joining.ids ≡ flat.steps.ids) × IsTwoWay (steps_of flat.joining) };
+    ghost invariant = { λ flat. (flat.joining.ids ≡ flat.steps.ids) × IsTwoWay (steps_of flat.joining) × (length flat.labels ≡ length flat.steps.ids) };
 }
 
 impl FlatGraph {
-    /// The graph of these vertices, whose identifiers rise, and of these edges between them, in any order.
-    pub fn gather(alloc: Global, ids: NumList, edges: &[FlatEdge]) -> Result<FlatGraph, NoMemory>
+    /// The graph of these vertices, whose identifiers rise, each with its row of labels, and of these edges between them,
+    /// in any order.
+    pub fn gather(
+        alloc: Global,
+        ids: NumList,
+        labels: LabelRows,
+        edges: &[FlatEdge],
+    ) -> Result<FlatGraph, NoMemory>
         requires rise { IsSet ids }
+        requires labels { length labels ≡ length ids }
         requires ends { AllByRecursion (IsBetween ids) edges.now }
         ensures ids { IfOk result (λ flat. flat.ids ≡ ids) }
+        ensures labels { IfOk result (λ flat. flat.labels ≡ labels) }
         ensures steps { IfOk result (λ flat. AreSameSteps flat.steps (flat_map steps_by edges.now)) }
         ensures joining { IfOk result (λ flat. AreSameSteps flat.joining (flat_map both_by edges.now)) }
         ensures arcs { IfOk result (λ flat. flat.arcs ≡ length edges.now) }
-        ensures graph { IfOk result (λ flat. (g : Graph) → ids ≡ keys g.vertices → edges.now ≡ map line_of g.edges → IsOf g flat) }
+        ensures graph { IfOk result (λ flat. (g : Graph) → ids ≡ keys g.vertices → labels ≡ labels_of g.vertices → edges.now ≡ map line_of g.edges → IsOf g flat) }
     {
         let copied = ids.copy(alloc)?;
         let steps = steps_along(alloc, Places::new(alloc, copied)?, edges)?;
@@ -52,6 +62,7 @@ impl FlatGraph {
         Ok(FlatGraph {
             steps,
             joining,
+            labels,
             edges: edges.len(),
         })
     }
@@ -68,6 +79,14 @@ impl FlatGraph {
         ensures { result ≡ self.now.arcs }
     {
         self.edges
+    }
+
+    /// The labels by place.
+    pub(crate) fn labels(&self) -> &LabelRows
+        ensures value { result.now ≡ self.now.labels }
+        ensures len { length result.now ≡ length self.now.ids }
+    {
+        &self.labels
     }
 
     /// The steps along the edges.

@@ -4,9 +4,11 @@
 mod flat_edge;
 mod flat_graph;
 mod gathering;
+mod label_rows;
 mod questions;
 #[cfg(test)]
 mod tests;
 
 pub use flat_edge::FlatEdge;
 pub use flat_graph::FlatGraph;
+pub use label_rows::LabelRows;

@@ -1,4 +1,4 @@
-use crate::{FlatEdge, FlatGraph};
+use crate::{FlatEdge, FlatGraph, LabelRows};
 use gdi_kinds::{Call, NoMemory, NumList, Pair, Reply};
 use std::alloc::Global;
 use std::test::Fail;
@@ -24,7 +24,12 @@ const EDGES: [FlatEdge; 3] = [
 
 fn chain(alloc: Global) -> Result<FlatGraph, NoMemory> {
     let ids = NumList::from_vec(vec![in alloc; 2, 5, 7, 9]?);
-    FlatGraph::gather(alloc, ids, &EDGES)
+    let labels = LabelRows::new(alloc)
+        .with(&[0, 1])?
+        .with(&[])?
+        .with(&[1])?
+        .with(&[1])?;
+    FlatGraph::gather(alloc, ids, labels, &EDGES)
 }
 
 fn pair(id: u64, number: u64) -> Pair {
