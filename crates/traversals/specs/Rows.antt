@@ -1,5 +1,6 @@
 -- Rows of numbers one behind the other in a list.
 use Rattle.std.specs.Prelude.{◌≡◌, ℕ, zero, suc, ◌≤◌, List, [], ◌∷◌, slice_range}
+use Rattle.std.specs.List.{slice_index_or}
 
 -- the rows that end there, each from where the one before ends
 abbrev pub rows_from : ℕ → List ℕ → List ℕ → List (List ℕ)
@@ -16,3 +17,7 @@ start_from start (stop ∷ stops) (suc place) = start_from stop stops place
 abbrev pub AreEnds : ℕ → List ℕ → ℕ → Type 0
 AreEnds start [] whole = start ≡ whole
 AreEnds start (stop ∷ stops) whole = (start ≤ stop) × AreEnds stop stops whole
+
+-- the row of a place, and an empty one where there is none
+abbrev pub row_of : List (List ℕ) → ℕ → List ℕ
+row_of rows place = slice_index_or rows place []

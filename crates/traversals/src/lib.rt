@@ -5,6 +5,7 @@ mod flat_edge;
 mod flat_graph;
 mod gathering;
 mod label_rows;
+mod labelled;
 mod questions;
 #[cfg(test)]
 mod tests;

@@ -74,6 +74,8 @@ fn counts_and_refusals(rt: HostRuntime) -> Result<(), Fail> {
         return Err("no vertex")?;
     };
     assert_eq!(rt; id, 8);
+    let labelled = flat.labelled(alloc, 1)?;
+    assert_eq!(rt; labelled.as_slice(), [2, 7, 9].as_slice());
     let other = flat.answer(alloc, &Call::Has { id: 2 })?;
     assert!(rt; other.is_none());
     Ok(())
