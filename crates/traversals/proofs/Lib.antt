@@ -2,3 +2,4 @@ pub mod Steps
 pub mod Telling
 pub mod Rows
 pub mod ByLabel
+pub mod Scanning

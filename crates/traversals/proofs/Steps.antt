@@ -78,9 +78,10 @@ joining-back edges steps same = λ i t step. same t i ∙ two-way edges t i ∙ 
 
 -- ---- the outline of a graph's lists
 
-pub outlines : (g : Graph) (ids : List ℕ) (edges : List FlatEdge) (outline : Outline) → ids ≡ keys g.vertices → outline.labels ≡ labels_of g.vertices → edges ≡ map line_of g.edges
+pub outlines : (g : Graph) (ids : List ℕ) (edges : List FlatEdge) (outline : Outline) → outline.names ≡ g.labels → ids ≡ keys g.vertices → outline.labels ≡ labels_of g.vertices → edges ≡ map line_of g.edges
     → outline.ids ≡ ids → AreSameSteps outline.steps (flat_map steps_by edges) → AreSameSteps outline.joining (flat_map both_by edges) → outline.arcs ≡ length edges → IsOf g outline
-outlines g ids edges outline vertices labels lines same_ids steps joining arcs = record {
+outlines g ids edges outline names vertices labels lines same_ids steps joining arcs = record {
+  names = names;
   ids = same_ids ∙ vertices;
   labels = labels;
   steps = λ i t. steps i t ∙ ap (λ (es : List FlatEdge). leads (flat_map steps_by es) i t) lines ∙ ap (λ (ss : List (ℕ × ℕ)). leads ss i t) (steps_of_lines g.edges);

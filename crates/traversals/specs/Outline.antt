@@ -1,11 +1,13 @@
 -- A graph as far as walks and counts ask of it.
 use Rattle.std.specs.Prelude.{◌≡◌, ℕ, List, length, map}
 use Rattle.graph_model.specs.Maps.{Map, keys}
-use Rattle.graph_model.specs.Graph.{Graph, Vertex}
+use Rattle.graph_model.specs.Graph.{Name, Graph, Vertex}
 use Rattle.graph_model.specs.Walks.{graph_steps, joining_steps}
 use Rattle.graph_walks.specs.Steps.{leads}
 
 pub record Outline : Type 0 where
+  -- the names of the labels, by number
+  pub names : List Name
   -- the identifiers of the vertices, rising
   pub ids : List ℕ
   -- the numbers of the labels of each
@@ -25,6 +27,7 @@ labels_of vertices = map (λ entry. entry.1.labels) vertices
 
 -- the outline is that of a graph
 pub record IsOf (g : Graph) (outline : Outline) : Type 0 where
+  pub names : outline.names ≡ g.labels
   pub ids : outline.ids ≡ keys g.vertices
   pub labels : outline.labels ≡ labels_of g.vertices
   pub steps : AreSameSteps outline.steps (graph_steps g)

@@ -1,5 +1,5 @@
 use crate::{FlatEdge, FlatGraph, LabelRows};
-use gdi_kinds::{Call, NoMemory, NumList, Pair, Reply};
+use gdi_kinds::{Call, Name, NameList, NumList, Pair, Reply};
 use std::alloc::Global;
 use std::test::Fail;
 
@@ -22,14 +22,19 @@ const EDGES: [FlatEdge; 3] = [
     },
 ];
 
-fn chain(alloc: Global) -> Result<FlatGraph, NoMemory> {
+fn name(bytes: &[u8]) -> Result<Name, Fail> {
+    Ok(Name::of(bytes).ok_or("a name")?)
+}
+
+fn chain(alloc: Global) -> Result<FlatGraph, Fail> {
     let ids = NumList::from_vec(vec![in alloc; 2, 5, 7, 9]?);
+    let names = NameList::from_vec(vec![in alloc; name(b"A")?, name(b"B")?]?);
     let labels = LabelRows::new(alloc)
         .with(&[0, 1])?
         .with(&[])?
         .with(&[1])?
         .with(&[1])?;
-    FlatGraph::gather(alloc, ids, labels, &EDGES)
+    Ok(FlatGraph::gather(alloc, names, ids, labels, &EDGES)?)
 }
 
 fn pair(id: u64, number: u64) -> Pair {
@@ -37,20 +42,13 @@ fn pair(id: u64, number: u64) -> Pair {
 }
 
 #[test]
-fn walks(rt: HostRuntime) -> Result<(), Fail> {
+fn levels_and_parts(rt: HostRuntime) -> Result<(), Fail> {
     let alloc = rt.alloc();
     let flat = chain(alloc)?;
     let Some(Reply::Levels(levels)) = flat.answer(alloc, &Call::Levels { id: 2 })? else {
         return Err("levels")?;
     };
-    assert_eq!(rt;
-        levels.as_slice(),
-        [pair(2, 0), pair(5, 1), pair(9, 2)].as_slice()
-    );
-    let Some(Reply::Ids(hood)) = flat.answer(alloc, &Call::Hood { id: 9, depth: 1 })? else {
-        return Err("hood")?;
-    };
-    assert_eq!(rt; hood.as_slice(), [5, 9].as_slice());
+    assert_eq!(rt; levels.as_slice(), [pair(2, 0), pair(5, 1), pair(9, 2)].as_slice());
     let Some(Reply::Parts(parts)) = flat.answer(alloc, &Call::Parts)? else {
         return Err("parts")?;
     };
@@ -59,24 +57,13 @@ fn walks(rt: HostRuntime) -> Result<(), Fail> {
 }
 
 #[test]
-fn counts_and_refusals(rt: HostRuntime) -> Result<(), Fail> {
+fn scans(rt: HostRuntime) -> Result<(), Fail> {
     let alloc = rt.alloc();
     let flat = chain(alloc)?;
-    let Some(Reply::Count(vertices)) = flat.answer(alloc, &Call::Vertices)? else {
-        return Err("vertices")?;
+    let label = Name::of(b"B");
+    let Some(Reply::Ids(ids)) = flat.answer(alloc, &Call::Scan { label, test: None })? else {
+        return Err("scan")?;
     };
-    assert_eq!(rt; vertices, 4);
-    let Some(Reply::Count(arcs)) = flat.answer(alloc, &Call::Arcs)? else {
-        return Err("arcs")?;
-    };
-    assert_eq!(rt; arcs, 3);
-    let Some(Reply::NoVertex(id)) = flat.answer(alloc, &Call::Levels { id: 8 })? else {
-        return Err("no vertex")?;
-    };
-    assert_eq!(rt; id, 8);
-    let labelled = flat.labelled(alloc, 1)?;
-    assert_eq!(rt; labelled.as_slice(), [2, 7, 9].as_slice());
-    let other = flat.answer(alloc, &Call::Has { id: 2 })?;
-    assert!(rt; other.is_none());
+    assert_eq!(rt; ids.as_slice(), [2, 7, 9].as_slice());
     Ok(())
 }
