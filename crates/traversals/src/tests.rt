@@ -1,5 +1,5 @@
 use crate::{FlatEdge, FlatGraph, LabelRows};
-use gdi_kinds::{Call, Name, NameList, NumList, Pair, Reply};
+use gdi_kinds::{Call, NameList, NoMemory, NumList, Pair, Reply};
 use std::alloc::Global;
 use std::test::Fail;
 
@@ -22,19 +22,14 @@ const EDGES: [FlatEdge; 3] = [
     },
 ];
 
-fn name(bytes: &[u8]) -> Result<Name, Fail> {
-    Ok(Name::of(bytes).ok_or("a name")?)
-}
-
-fn chain(alloc: Global) -> Result<FlatGraph, Fail> {
+fn chain(alloc: Global) -> Result<FlatGraph, NoMemory> {
     let ids = NumList::from_vec(vec![in alloc; 2, 5, 7, 9]?);
-    let names = NameList::from_vec(vec![in alloc; name(b"A")?, name(b"B")?]?);
     let labels = LabelRows::new(alloc)
         .with(&[0, 1])?
         .with(&[])?
         .with(&[1])?
         .with(&[1])?;
-    Ok(FlatGraph::gather(alloc, names, ids, labels, &EDGES)?)
+    FlatGraph::gather(alloc, NameList::new(alloc), ids, labels, &EDGES)
 }
 
 fn pair(id: u64, number: u64) -> Pair {
@@ -48,7 +43,10 @@ fn levels_and_parts(rt: HostRuntime) -> Result<(), Fail> {
     let Some(Reply::Levels(levels)) = flat.answer(alloc, &Call::Levels { id: 2 })? else {
         return Err("levels")?;
     };
-    assert_eq!(rt; levels.as_slice(), [pair(2, 0), pair(5, 1), pair(9, 2)].as_slice());
+    assert_eq!(rt;
+        levels.as_slice(),
+        [pair(2, 0), pair(5, 1), pair(9, 2)].as_slice()
+    );
     let Some(Reply::Parts(parts)) = flat.answer(alloc, &Call::Parts)? else {
         return Err("parts")?;
     };
@@ -57,13 +55,9 @@ fn levels_and_parts(rt: HostRuntime) -> Result<(), Fail> {
 }
 
 #[test]
-fn scans(rt: HostRuntime) -> Result<(), Fail> {
-    let alloc = rt.alloc();
-    let flat = chain(alloc)?;
-    let label = Name::of(b"B");
-    let Some(Reply::Ids(ids)) = flat.answer(alloc, &Call::Scan { label, test: None })? else {
-        return Err("scan")?;
-    };
-    assert_eq!(rt; ids.as_slice(), [2, 7, 9].as_slice());
+fn labels(rt: HostRuntime) -> Result<(), Fail> {
+    let flat = chain(rt.alloc())?;
+    let found = flat.labelled(rt.alloc(), 1)?;
+    assert_eq!(rt; found.as_slice(), [2, 7, 9].as_slice());
     Ok(())
 }
