@@ -1,0 +1,5 @@
+pub mod Steps
+pub mod Telling
+pub mod Rows
+pub mod ByLabel
+pub mod Scanning

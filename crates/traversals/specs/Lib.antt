@@ -1,0 +1,4 @@
+pub mod Outline
+pub mod Edges
+pub mod Questions
+pub mod Rows

@@ -1,0 +1,23 @@
+-- Rows of numbers one behind the other in a list.
+use Rattle.std.specs.Prelude.{◌≡◌, ℕ, zero, suc, ◌≤◌, List, [], ◌∷◌, slice_range}
+use Rattle.std.specs.List.{slice_index_or}
+
+-- the rows that end there, each from where the one before ends
+abbrev pub rows_from : ℕ → List ℕ → List ℕ → List (List ℕ)
+rows_from start [] numbers = []
+rows_from start (stop ∷ stops) numbers = slice_range numbers start stop ∷ rows_from stop stops numbers
+
+-- where the row of a place starts
+abbrev pub start_from : ℕ → List ℕ → ℕ → ℕ
+start_from start stops zero = start
+start_from start [] (suc place) = start
+start_from start (stop ∷ stops) (suc place) = start_from stop stops place
+
+-- no row ends before it starts, and the last one ends with the list
+abbrev pub AreEnds : ℕ → List ℕ → ℕ → Type 0
+AreEnds start [] whole = start ≡ whole
+AreEnds start (stop ∷ stops) whole = (start ≤ stop) × AreEnds stop stops whole
+
+-- the row of a place, and an empty one where there is none
+abbrev pub row_of : List (List ℕ) → ℕ → List ℕ
+row_of rows place = slice_index_or rows place []
