@@ -18,14 +18,26 @@ fn words_of(alloc: Global, words: &[&str]) -> Result<CommandWordList, Fail> {
     Ok(list)
 }
 
+fn words_with(alloc: Global, words: &[&str], options: &[&str]) -> Result<CommandWordList, Fail> {
+    let mut list = words_of(alloc, words)?;
+    for option in options {
+        list.push(CommandWord::of(alloc, option)?)?;
+    }
+    Ok(list)
+}
+
+fn file_of(alloc: Global, name: &str, text: &str) -> Result<NamedBytes, Fail> {
+    Ok(NamedBytes {
+        name: bytes_of(alloc, name)?,
+        bytes: bytes_of(alloc, text)?,
+    })
+}
+
 // A shelf with these files by name, whose calls of these numbers fail.
 fn shelf_with(alloc: Global, files: &[(&str, &str)], fails: &[u64]) -> Result<MemShelf, Fail> {
     let mut list = FileList::new(alloc);
     for (name, text) in files {
-        list.push(NamedBytes {
-            name: bytes_of(alloc, name)?,
-            bytes: bytes_of(alloc, text)?,
-        })?;
+        list.push(file_of(alloc, name, text)?)?;
     }
     Ok(MemShelf::new(list, NumList::from_vec(Vec::from_slice(alloc, fails)?)))
 }
@@ -380,24 +392,26 @@ fn legal_output(
     vertices: &str,
     script: &str,
 ) -> Result<String, Fail> {
-    let mut words = words_of(alloc, &["run", "s"])?;
-    let mut checked = words_of(alloc, &["check", "s", "o"])?;
-    for option in options {
-        words.push(CommandWord::of(alloc, option)?)?;
-        checked.push(CommandWord::of(alloc, option)?)?;
-    }
-    let mut shelf = shelf_with(alloc, &[("v", vertices), ("s", script)], &[])?;
+    let words = words_with(alloc, &["run", "s"], options)?;
+    let mut files = FileList::new(alloc);
+    files.push(file_of(alloc, "v", vertices)?)?;
+    files.push(file_of(alloc, "s", script)?)?;
+    let mut shelf = MemShelf::new(files, NumList::new(alloc));
     let mut sink = MemSink::new(alloc, 1_000_000, NumList::new(alloc));
     assert_eq!(rt;
         gdi_main(alloc, &words, &mut shelf, &mut sink),
         Status::Done
     );
     let output = String::from_utf8(Vec::from_slice(alloc, sink.bytes())?)?;
-    let files = [("v", vertices), ("s", script), ("o", output.as_str())];
-    let mut shelf = shelf_with(alloc, &files, &[])?;
+    let words = words_with(alloc, &["check", "s", "o"], options)?;
+    let mut files = FileList::new(alloc);
+    files.push(file_of(alloc, "v", vertices)?)?;
+    files.push(file_of(alloc, "s", script)?)?;
+    files.push(file_of(alloc, "o", output.as_str())?)?;
+    let mut shelf = MemShelf::new(files, NumList::new(alloc));
     let mut sink = MemSink::new(alloc, 1000, NumList::new(alloc));
     assert_eq!(rt;
-        gdi_main(alloc, &checked, &mut shelf, &mut sink),
+        gdi_main(alloc, &words, &mut shelf, &mut sink),
         Status::Done
     );
     assert_eq!(rt; sink.bytes(), "legal\n".as_bytes());
