@@ -31,6 +31,7 @@ fn run_scripts<R: Files + Alloc<A = Global> + Print>(rt: &R, geometry: Geometry)
     run(rt, geometry, None, None, "longest_text")?;
     run(rt, geometry, None, None, "sees_before")?;
     run(rt, geometry, None, None, "components")?;
+    run(rt, geometry, None, None, "triangle")?;
     run(rt, geometry, None, None, "come_and_go")
 }
 
@@ -41,6 +42,7 @@ fn run_on_few_blocks<R: Files + Alloc<A = Global> + Print>(
     let three = Some("three.vertices");
     let four = Some("four.vertices");
     run(rt, geometry, None, None, "few_blocks")?;
+    run(rt, geometry, None, None, "made_again_when_full")?;
     run(rt, geometry, four, None, "looks")?;
     run(rt, geometry, three, Some("heavy.edges"), "looks")?;
     run(rt, geometry, three, None, "numbers_behind_a_load")?;
