@@ -1,4 +1,4 @@
-use Rattle.std.proofs.Common.{◌≡◌, ◌+◌, ◌-◌, ◌<◌, ℕ, suc, get_or, length, sym, ap, ◌∙◌, arith}
+use Rattle.std.proofs.Common.{◌≡◌, ◌-◌, ◌<◌, suc, length, sym, ap, ◌∙◌, arith}
 use Rattle.traversals.specs.Rows.{start_from}
 use Rattle.traversals.proofs.Rows.{start-behind}
 use Rattle.traversals.proofs.label_rows.start_of.Goals as goal

@@ -1,5 +1,4 @@
 use Rattle.std.proofs.Common.{List, length, sym, ap, ◌∙◌, arith}
-use Rattle.std.specs.List.{position}
 use Rattle.std.specs.Str.{bytes_eq}
 use Rattle.graph_model.specs.Graph.{Name}
 use Rattle.graph_model.specs.Maps.{place_where}

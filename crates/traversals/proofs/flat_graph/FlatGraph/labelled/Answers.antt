@@ -1,4 +1,4 @@
-use Rattle.std.proofs.Common.{◌≡◌, ℕ, List, length, get_or, map, sym, ap, ◌∙◌}
+use Rattle.std.proofs.Common.{ℕ, List, length, get_or, map, ap, ◌∙◌}
 use Rattle.std.specs.List.{filter, range_with_len}
 use Rattle.graph_model.specs.Maps.{has}
 use Rattle.traversals.specs.Rows.{row_of}

@@ -1,4 +1,4 @@
-use Rattle.std.proofs.Common.{List, ℕ, length, sym, ap, ◌∙◌, arith}
+use Rattle.std.proofs.Common.{List, ℕ, length, ap, arith}
 use Rattle.traversals.proofs.Rows.{rows-length}
 use Rattle.traversals.proofs.label_rows.LabelRows.len.Goals as goal
 
