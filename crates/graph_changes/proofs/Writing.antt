@@ -61,7 +61,7 @@ stays shape other g h vertices edges rank object (t ∷ gone) all on =
 
 -- ---- what such a call does
 
-module _ {shape : Shape} {call : Call} {reply : Reply} {store before after : Contents} {g : Graph} (is : Represents shape (overlay store before) g) (ranges : IsInRange shape)
+module _ (shape : Shape) (store before after : Contents) (g : Graph) (is : Represents shape (overlay store before) g) (ranges : IsInRange shape)
     (h : Graph) (vertices : VertexObjects) (edges : EdgeObjects) (touched gone : List RankObject)
     (change : IsChange shape (overlay store before) (overlay store after) g is.vertices is.edges h vertices edges touched gone)
     -- a new object is where the store has nothing
@@ -73,10 +73,10 @@ module _ {shape : Shape} {call : Call} {reply : Reply} {store before after : Con
     | false ↦ λ was. fresh rank object on was
   ] refl
 
-  pub change_does : graph_after_call shape g call ≡ h → reply ≡ reply_to shape g call → IsWellFormed h
+  pub change_does : {call : Call} {reply : Reply} → graph_after_call shape g call ≡ h → reply ≡ reply_to shape g call → IsWellFormed h
       → ((rank : ℕ) → rank < shape.ranks → made_objects shape store after rank ≡ made_objects shape store before rank + made_by shape g call rank)
       → DoesCall shape call reply store before after g is
-  change_does same answer well made = does_to is h vertices edges same answer well
+  change_does {call} {reply} same answer well made = does_to is h vertices edges same answer well
       (represented shape (overlay store after) h well vertices edges ranges
       (changed_view shape (overlay store before) (overlay store after) g is.well_formed is.vertices is.edges ranges
       (viewed shape (overlay store before) g is.well_formed is.vertices is.edges ranges is.represented) h vertices edges touched gone change))
