@@ -30,7 +30,7 @@ module _ {N : Type 0} where
   AtEachGraph old new Holds = (store : Contents) (g : Graph) (is : Represents old.shape (overlay store old.writes) g) → Agrees new.reads store
       → Holds g (overlay store old.writes) is
 
-  -- a vertex as its object holds it, and none where there is none. The contracts of private functions alone cite these
+  -- a vertex as its object holds it, and none where there is none
   pub record FindsVertex (id : ℕ) (old new : StoreState N) (found : Option VertexHolder) : Type 0 where
     pub looks : Looks old new
     pub stands : Knows Stands new
