@@ -1,3 +1,4 @@
 pub mod Standing
 pub mod Doing
 pub mod Looking
+pub mod Writing

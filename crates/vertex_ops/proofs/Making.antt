@@ -8,7 +8,7 @@ use Rattle.object_words.proofs.Places.{in_order-with_words, place_ties_itself, p
 use Rattle.graph_model.specs.Graph.{PropType}
 use Rattle.graph_model.specs.Sizes.{most_words}
 use Rattle.object_store.specs.State.{StoreState}
-use Rattle.object_store.specs.Calls.{MakesObject, MayWrite, WritesObject}
+use Rattle.object_store.specs.Calls.{MakesObject, MayMakeMore, MayWrite, WritesObject}
 use Rattle.object_store.proofs.Working.{content_put, stays-then}
 use Rattle.held_objects.proofs.Knows.{knows_after}
 use Rattle.holder_codec.specs.Vertex.{IsVertexHolder, vertex_words}
@@ -28,6 +28,8 @@ module _ {N : Type 0} {home : ℕ} {object : Place} {old mid : StoreState N} (di
   makes id {new} is ordered holds wrote = record {
     place = record { home = did.rank ∙ is; block = did.block.1; unreserved = did.unreserved };
     block = did.block;
+    unwritten = did.unwritten;
+    most = subst (MayMakeMore old) is did.most;
     empty = λ contents agrees. agrees object [] (ap (λ (r : Contents). words_at r object) (wrote.reads ∙ did.reads) ∙ words_at_here old.reads object []);
     held = held_now;
     known = record {

@@ -1,16 +1,17 @@
 -- A vertex as its object holds it, and what the calls on it do.
-use Rattle.std.specs.Prelude.{◌≡◌, ◌≤◌, ℕ, Bool, true, false, not, List, [], ◌∷◌, length, if◌then◌else◌}
+use Rattle.std.specs.Prelude.{◌≡◌, ◌≤◌, ℕ, Bool, true, false, not, List, [], ◌∷◌, length, None, if◌then◌else◌}
 use Rattle.std.specs.List.{AllByRecursion}
 use Rattle.std.specs.Ordering.{nat_cmp}
 use Rattle.gdi_kinds.specs.declared.reply.Reply.TheVariants as reply
 use Rattle.gdi_kinds.specs.declared.value.Value.{Value}
 use Rattle.rma_layout.specs.Shape.{Shape}
 use Rattle.rma_layout.specs.Placement.{Place, home_of, IsBlock}
-use Rattle.object_words.specs.Contents.{Contents, Agrees, content_of, overlay}
+use Rattle.object_words.specs.Contents.{Contents, Agrees, content_of, overlay, words_at}
 use Rattle.graph_model.specs.Maps.{IsMap, IsSet, is_there, with_at, without, has, add, take_out}
 use Rattle.graph_model.specs.Graph.{PropType, Props, Vertex, new_vertex}
 use Rattle.graph_model.specs.Sizes.{is_too_large}
 use Rattle.object_store.specs.State.{StoreState}
+use Rattle.object_store.specs.Calls.{MayMakeMore}
 use Rattle.object_store.specs.Works.{Looks}
 use Rattle.holder_codec.specs.declared.edge_record.EdgeRecord.{EdgeRecord}
 use Rattle.holder_codec.specs.declared.vertex_holder.VertexHolder.{VertexHolder}
@@ -124,6 +125,9 @@ module _ {N : Type 0} where
   pub record Makes (id : ℕ) (old new : StoreState N) (object : Place) : Type 0 where
     pub place : IsUnreserved old.shape (home_of old.shape id) object
     pub block : IsBlock old.shape object
+    -- the transaction had written nothing there, and a store that tells how many objects it makes had room for it
+    pub unwritten : words_at old.writes object ≡ None
+    pub most : MayMakeMore old (home_of old.shape id)
     -- it was empty, whatever of the store is unknown
     pub empty : (contents : Contents) → Agrees new.reads contents → content_of contents object ≡ []
     pub held : (contents : Contents) (types : List PropType) → HoldsVertex object (overlay contents new.writes) (bare id types)
