@@ -33,7 +33,8 @@ stays_there store {was} {before} {after} is same = subst (λ (b : Bool). ComesFr
 
 -- ---- how many are made
 
-made_alike : (reserved empty : Bool) (one other : Bool) → (reserved ≡ false → one ≡ other) → one_if (not reserved && empty && one) ≡ one_if (not reserved && empty && other)
+-- what counts an object
+pub made_alike : (reserved empty : Bool) (one other : Bool) → (reserved ≡ false → one ≡ other) → one_if (not reserved && empty && one) ≡ one_if (not reserved && empty && other)
 made_alike true empty one other same = refl
 made_alike false empty one other same = ap (λ b. one_if (empty && b)) (same refl)
 
@@ -103,12 +104,15 @@ nothing_apart rank never = cc
 object_apart : (object : Place) (rank : ℕ) → names_object object ≡ names_rank rank → ⊥
 object_apart object rank never = cc
 
--- a call that makes no object names no rank
-pub refuses_no_rank : {N : Type 0} {call : Call} {Reached : Place → Type 0} {old new : StoreState N} {said : Said} → RefusesReach Reached (λ _. ⊥) old new said → RefusesCall call old said
-refuses_no_rank {Reached = Reached} {old = old} {said = said} refused = record { makes = λ _ rank named _ _. absurd (none rank refused.names named) }
+-- what makes no object names no rank
+pub names_no_rank : {N : Type 0} {Reached : Place → Type 0} {old new : StoreState N} {said : Said} → RefusesReach Reached (λ _. ⊥) old new said → (rank : ℕ) → said.names ≡ names_rank rank → ⊥
+names_no_rank {Reached = Reached} {old = old} {said = said} refused rank named = none rank refused.names named
   where
     none : (rank : ℕ) → (said.names ≡ names_nothing) ⊎ ((object : Place) × (said.names ≡ names_object object) × (Reached object ⊎ IsSome (words_at old.reads object) ⊎ ⊥))
         ⊎ ((other : ℕ) × (said.names ≡ names_rank other) × ⊥) → said.names ≡ names_rank rank → ⊥
     none rank (inl nothing) named = nothing_apart rank (sym nothing ∙ named)
     none rank (inr (inl one)) named = object_apart one.0 rank (sym one.1 ∙ named)
     none rank (inr (inr never)) named = never.2
+
+pub refuses_no_rank : {N : Type 0} {call : Call} {Reached : Place → Type 0} {old new : StoreState N} {said : Said} → RefusesReach Reached (λ _. ⊥) old new said → RefusesCall call old said
+refuses_no_rank refused = record { makes = λ _ rank named _ _. absurd (names_no_rank refused rank named) }

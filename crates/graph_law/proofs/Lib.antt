@@ -1,4 +1,5 @@
 pub mod Standing
 pub mod Doing
+pub mod Counting
 pub mod Looking
 pub mod Writing
