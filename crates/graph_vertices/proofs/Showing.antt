@@ -53,7 +53,7 @@ left_alone id show g None = refl
 left_alone id show g (Some vertex) = refl
 
 -- names that were read after a look are those of before
-names_later : {N : Type 0} {old mid new : StoreState N} {names : MetaHolder} → Looks old mid → FindsNames mid new names → (store : Contents) (g : Graph) (is : Represents old.shape (overlay store old.writes) g)
+pub names_later : {N : Type 0} {old mid new : StoreState N} {names : MetaHolder} → Looks old mid → FindsNames mid new names → (store : Contents) (g : Graph) (is : Represents old.shape (overlay store old.writes) g)
     → Agrees new.reads store → names ≡ names_of g
 names_later {N} {old} {mid} looks found store g is agrees =
     let unwritten = subst (λ (writes : Contents). Represents old.shape (overlay store writes) g) (sym looks.writes) is in

@@ -74,7 +74,7 @@ above_apart n m less = grind (arith, nat_tests)
 tied_same : (n m : ℕ) → is_eq (nat_cmp n m) ≡ true → n ≡ m
 tied_same n m tied = grind (arith, nat_tests)
 
-tied_is : (n m : ℕ) (b : Bool) → is_eq (nat_cmp n m) ≡ b → m == n ≡ b
+pub tied_is : (n m : ℕ) (b : Bool) → is_eq (nat_cmp n m) ≡ b → m == n ≡ b
 tied_is n m true tied = grind (arith, nat_tests)
 tied_is n m false untied = grind (arith, nat_tests)
 
