@@ -44,6 +44,9 @@ pub from_none : {X Y : Type 0} (f : X → Y) (o : Option X) → None ≡ option_
 from_none f None is = refl
 from_none f (Some x) never = absurd cc
 
+pub same_length : (g : Graph) → length (names_of g).types ≡ length g.types
+same_length g = length-map g.types (λ (type : PropType). record { name = type.name; kind = type.kind; many = type.many })
+
 -- a vertex is looked up, and shown
 abbrev pub ShowsVertex : ℕ → (Graph → Vertex → Reply) → Graph → Option Vertex → Step Answer
 ShowsVertex id show g o = found_or (NoVertex id) o >>= (λ vertex. leaves g (show g vertex))
@@ -132,9 +135,6 @@ module _ {id : ℕ} {old mid : StoreState Noted} (ranges : IsInRange old.shape) 
         let fit = (vertex_fits old.shape (overlay (committed new) old.writes) g somewhere.represents id here.0 here.1).props.1 in
         subst (λ (n : ℕ). AllByRecursion (λ (prop : HeldProp). prop.number < n) vertex.props) (sym (ap (λ (m : MetaHolder). length m.types) names_are ∙ same_length g))
         (subst (λ (ps : List HeldProp). AllByRecursion (λ (prop : HeldProp). prop.number < length g.types) ps) (sym (ap (λ (h : VertexHolder). h.props) here.2)) (props_below g.types g.types here.0.props fit))
-      where
-        same_length : (g : Graph) → length (names_of g).types ≡ length g.types
-        same_length g = length-map g.types (λ (type : PropType). record { name = type.name; kind = type.kind; many = type.many })
 
 -- ---- what is shown
 
