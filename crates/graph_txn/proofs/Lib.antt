@@ -1,0 +1,5 @@
+pub mod Standing
+pub mod Needs
+pub mod Room
+pub mod Going
+pub mod Ending
