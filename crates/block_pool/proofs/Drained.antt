@@ -24,7 +24,8 @@ use Rattle.window_rule.proofs.Trails.{follows_trans}
 use Rattle.fabric.specs.Window.{RankModel, WindowModel}
 use Rattle.block_pool.specs.Gives.{Frees, OnlyBlocks, OthersStay}
 use Rattle.block_pool.specs.Takes.{TakesSpare}
-use Rattle.block_pool.specs.Drains.{Drains, DrainsHome, HasLowTag, HasTag}
+use Rattle.block_pool.specs.Alone.{HasLowTag, HasTag}
+use Rattle.block_pool.specs.Drains.{Drains, DrainsHome}
 use Rattle.block_pool.proofs.GivesKept.{only_after}
 
 -- an exchange that can't fail was made
@@ -69,7 +70,7 @@ raised_other rank tag other bounds ne =
     ∙ left_other rank other bounds ne
 
 -- and after a load
-loaded_here : (rank tag : ℕ) (rest : List (ℕ × ℕ))
+pub loaded_here : (rank tag : ℕ) (rest : List (ℕ × ℕ))
     → bound_of ((rank, tag) ∷ rest) rank ≡ Some tag
 loaded_here rank tag rest = ap (λ b. cond b (Some tag) (bound_of rest rank)) (eq-eqb rank rank refl)
 
@@ -89,7 +90,7 @@ without_other rank other (one ∷ more) ne =
           ∙ ap (λ r. cond (one.0 == other) (Some one.1) r) (without_other rank other more ne)
     ]
 
-loaded_other : (rank tag other : ℕ) (bounds : List (ℕ × ℕ)) → other ≢ rank
+pub loaded_other : (rank tag other : ℕ) (bounds : List (ℕ × ℕ)) → other ≢ rank
     → bound_of ((rank, tag) ∷ without_bound bounds rank) other ≡ bound_of bounds other
 loaded_other rank tag other bounds ne =
     ap (λ b. cond b (Some tag) (bound_of (without_bound bounds rank) other))
@@ -330,7 +331,7 @@ module _ {N : Type 0} (shape : Shape) (home : ℕ) (block : Place)
           };
         }
 
-no_first : (shape : Shape) (home : ℕ) (list : List Place)
+pub no_first : (shape : Shape) (home : ℕ) (list : List Place)
     → AllByRecursion (MayBeFree shape home) list → number_to list ≡ 0 → list ≡ []
 no_first shape home [] on none = refl
 no_first shape home (block ∷ more) on none = absurd (some_number shape home block on.0 none)

@@ -11,6 +11,7 @@ use Rattle.free_list.specs.Lists.{number_to}
 use Rattle.window_rule.specs.View.{View, OwnBlock, HeadNote, Look, Miss}
 use Rattle.window_rule.specs.Locks.{hold_of}
 use Rattle.window_rule.specs.Partition.{places_of, times}
+use Rattle.window_rule.specs.RightsHold.{IsAlone}
 use Rattle.window_rule.specs.RoomHolds.{count_on}
 use Rattle.window_rule.specs.Pool.{Heads, MayBeFree, MayPush, headed, linked, missed, next_in, note_of, own_next_of, own_of, pushed, raised, with_link, without_bound, without_note, without_own}
 use Rattle.window_rule.specs.Spares.{SpareEnds, HasSpares, IsNoSpare, first_spare_of, last_spare_of, with_spare}
@@ -212,6 +213,8 @@ pub record IsTried {N : Type 0} (shape : Shape) (block : Place) (times : ℕ)
   pub has : HasSpares shape now.view.private now.spares
   pub may : MayGive shape now block
   pub free : 0 < times → MayBeFree shape block.rank block
+  -- none fails of a rank that is alone
+  pub alone : IsAlone shape before.view → (now ≡ before) × (times ≡ 0)
   pub follows : Follows before.view now.view
 
 module _ {N : Type 0} (shape : Shape) (block : Place) (before one two : RankModel N) where

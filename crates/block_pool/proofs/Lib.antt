@@ -5,3 +5,5 @@ pub mod GivesKept
 pub mod Walks
 pub mod Drained
 pub mod ForUse
+pub mod TakenAlone
+pub mod GivenAlone

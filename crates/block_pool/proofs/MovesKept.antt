@@ -128,12 +128,14 @@ tries_any shape home m n before after (Err (Empty head)) idle h = h
 tries_any shape home m n before after (Err (PoolBusy loaded seen)) idle h = cc idle
 tries_any shape home m n before after (Err (Worn head)) idle h = h
 
--- so many exchanges have failed so far
-pub record IsBusy {N : Type 0} (home times : ℕ) (before now : RankModel N) : Type 0 where
+-- so many exchanges have failed so far, and none of a rank that is alone
+pub record IsBusy {N : Type 0} (shape : Shape) (home times : ℕ)
+    (before now : RankModel N) : Type 0 where
   pub window : now.window ≡ before.window
   pub spares : now.spares ≡ before.spares
   pub unmoved : Unmoved before.view now.view
   pub failed : Failed home times before.view now.view
+  pub alone : IsAlone shape before.view → now.view ≡ before.view
   pub follows : Follows before.view now.view
 
 pub alone_still : {N : Type 0} (shape : Shape) (one two : View N) → Follows one two

@@ -1,21 +1,12 @@
 -- What giving back all spares means.
-use Rattle.std.specs.Prelude.{◌≡◌, ◌≢◌, ℕ, ◌+◌, ◌^◌, ◌<◌, ◌≤◌, List, Some}
+use Rattle.std.specs.Prelude.{◌≡◌, ◌≢◌, ℕ, ◌+◌, List}
 use Rattle.rma_layout.specs.Shape.{Shape}
 use Rattle.rma_layout.specs.Placement.{Place}
-use Rattle.window_rule.specs.View.{View}
 use Rattle.window_rule.specs.Partition.{places_of, times}
 use Rattle.window_rule.specs.Pool.{bound_of, own_next_of}
 use Rattle.window_rule.specs.Spares.{AreSparesOf, HasSpares, first_spare_of, last_spare_of}
 use Rattle.fabric.specs.Window.{RankModel}
 use Rattle.block_pool.specs.Gives.{OnlyBlocks}
-
--- the view knows a bound of the tag in the rank's head, and it is at most this
-abbrev pub HasTag : {N : Type 0} → ℕ → ℕ → View N → Type 0
-HasTag home most view = (bound : ℕ) × (bound_of view.bounds home ≡ Some bound) × (bound ≤ most)
-
--- the tag in the rank's head is below 2^43
-abbrev pub HasLowTag : {N : Type 0} → ℕ → View N → Type 0
-HasLowTag home view = (bound : ℕ) × (bound_of view.bounds home ≡ Some bound) × (bound < 2 ^ 43)
 
 -- each block that was a spare is no own block any more, and each other own block is one still
 pub record Drains {N : Type 0} (shape : Shape) (before after : RankModel N) : Type 0 where

@@ -8,7 +8,8 @@ ghost use Rattle.window_rule.specs.Pool.{bound_of};
 ghost use Rattle.window_rule.specs.Spares.{HasNone, HasSpares};
 ghost use Rattle.window_rule.specs.Trails.{Follows};
 ghost use Rattle.block_pool.specs.Gives.{Frees, MayGive};
-ghost use Rattle.block_pool.specs.Drains.{Drains, DrainsHome, HasLowTag, HasTag};
+ghost use Rattle.block_pool.specs.Alone.{HasLowTag, HasTag};
+ghost use Rattle.block_pool.specs.Drains.{Drains, DrainsHome};
 
 use crate::taking::take_spare;
 use fabric::{Rank, Window};

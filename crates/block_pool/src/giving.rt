@@ -2,7 +2,9 @@ ghost use Rattle.std.specs.Prelude.{◌≡◌, ◌≢◌, ◌<◌, ◌^◌, ◌�
 ghost use Rattle.rma_layout.specs.Placement.{IsBlock, Place};
 ghost use Rattle.window_rule.specs.Spares.{HasSpares, first_spare_of, with_spare};
 ghost use Rattle.window_rule.specs.Pool.{MayBeFree, linked, own_next_of};
+ghost use Rattle.window_rule.specs.RightsHold.{IsAlone};
 ghost use Rattle.window_rule.specs.Trails.{Follows};
+ghost use Rattle.block_pool.specs.Alone.{GivesAlone, PushesAlone};
 ghost use Rattle.block_pool.specs.Gives.{Frees, IsForUse, Keeps, MayGive, Pushes};
 
 use crate::MOST_EXCHANGES;
@@ -25,14 +27,15 @@ enum Push {
 /// Gives a block of its own back to the free list of its rank.
 ///
 /// The block is no spare, and the rank has no lock on it and nothing detached. Afterwards it is free; or it is a spare of
-/// this rank, where 64 exchanges failed or the head has the last tag. Other own blocks that are no spares stay so. No memory
-/// is taken.
+/// this rank, where 64 exchanges failed or the head has the last tag. On a rank that is alone and knows of a lower tag it is
+/// free. Other own blocks that are no spares stay so. No memory is taken.
 pub fn give<L: Law>(window: &Window<L>, rank: &mut Rank<L>, block: DPtr)
     requires window { rank.old.window ≡ window.now }
     requires block { IsBlock window.now.shape block }
     requires may { MayGive window.now.shape rank.old block }
     ensures window { rank.new.window ≡ rank.old.window }
     ensures given { Frees block rank.old rank.new ⊎ Keeps block rank.old rank.new }
+    ensures alone { IsAlone window.now.shape rank.old.view → GivesAlone block rank.old rank.new }
     ensures stay { (other : Place) → other ≢ block → IsForUse window.now.shape rank.old other → IsForUse window.now.shape rank.new other }
     ensures follows { Follows rank.old.view rank.new.view }
 {
@@ -76,6 +79,7 @@ fn try_push<L: Law>(window: &Window<L>, rank: &mut Rank<L>, block: DPtr) -> Push
     requires has { HasSpares window.now.shape rank.old.view.private rank.old.spares }
     ensures window { rank.new.window ≡ rank.old.window }
     ensures pushes { Pushes block rank.old rank.new result }
+    ensures alone { IsAlone window.now.shape rank.old.view → PushesAlone block rank.old.view rank.new.view result }
     ensures free { MayBeFree window.now.shape block.rank block }
     ensures follows { Follows rank.old.view rank.new.view }
 {

@@ -5,6 +5,7 @@ ghost use Rattle.window_rule.specs.RightsHold.{IsAlone};
 ghost use Rattle.window_rule.specs.Spares.{IsNoSpare, first_spare_of};
 ghost use Rattle.window_rule.specs.Trails.{Follows};
 ghost use Rattle.window_rule.specs.Pool.{MayBeFree};
+ghost use Rattle.block_pool.specs.Alone.{TakesAlone};
 ghost use Rattle.block_pool.specs.Gives.{IsForUse};
 ghost use Rattle.block_pool.specs.Moves.{OnlyTaken};
 ghost use Rattle.block_pool.specs.Takes as takes;
@@ -19,15 +20,17 @@ use rma_layout::DPtr;
 
 /// Takes a block of a home rank: a spare if the rank has one, else the first block of the free list.
 ///
-/// The block is then the rank's own, and no spare. Other own blocks that are no spares stay so. A refusal says why there was none, and no block has moved; a rank that
-/// is alone never gets `PoolBusy`. No memory is taken.
+/// The block is then the rank's own, and no spare. Other own blocks that are no spares stay so. A refusal says why there was
+/// none, and no block has moved. A rank that is alone never gets `PoolBusy`, `Worn` only where it knows of no lower tag, and
+/// `Empty` only where its own blocks and those that contents use are all the blocks. No memory is taken.
 pub fn take<L: Law>(window: &Window<L>, rank: &mut Rank<L>, home: u16) -> Result<DPtr, PoolRefused>
     requires window { rank.old.window ≡ window.now }
     requires home { home < window.now.shape.ranks }
     ensures window { rank.new.window ≡ rank.old.window }
     ensures taken { MatchResult result (λ block. Takes home block rank.old rank.new)
         (λ refused. Refusal home rank.old rank.new refused) }
-    ensures alone { IsAlone window.now.shape rank.old.view → takes.is_busy result ≡ false }
+    ensures alone { IsAlone window.now.shape rank.old.view → TakesAlone window.now.shape home
+        (first_spare_of rank.old.spares home) rank.old.view rank.new.view result }
     ensures only { OnlyTaken rank.old.view rank.new.view }
     ensures stay { (other : Place) → IsForUse window.now.shape rank.old other → IsForUse window.now.shape rank.new other }
     ensures follows { Follows rank.old.view rank.new.view }
@@ -67,7 +70,8 @@ fn take_free<L: Law>(window: &Window<L>, rank: &mut Rank<L>, home: u16) -> Resul
     ensures window { rank.new.window ≡ rank.old.window }
     ensures spares { rank.new.spares ≡ rank.old.spares }
     ensures taken { Tries window.now.shape home 64 rank.old.view rank.new.view result }
-    ensures alone { IsAlone window.now.shape rank.old.view → takes.is_busy result ≡ false }
+    ensures alone { IsAlone window.now.shape rank.old.view → TakesAlone window.now.shape home 0
+        rank.old.view rank.new.view result }
     ensures follows { Follows rank.old.view rank.new.view }
 {
     for _ in 1..MOST_EXCHANGES {
@@ -96,7 +100,8 @@ fn try_pop<L: Law>(window: &Window<L>, rank: &mut Rank<L>, home: u16) -> Result<
     ensures window { rank.new.window ≡ rank.old.window }
     ensures spares { rank.new.spares ≡ rank.old.spares }
     ensures taken { Tries window.now.shape home 1 rank.old.view rank.new.view result }
-    ensures alone { IsAlone window.now.shape rank.old.view → takes.is_busy result ≡ false }
+    ensures alone { IsAlone window.now.shape rank.old.view → TakesAlone window.now.shape home 0
+        rank.old.view rank.new.view result }
     ensures follows { Follows rank.old.view rank.new.view }
 {
     let head = rank.head(window, home);

@@ -1,12 +1,17 @@
 -- The map of held objects does what locks do, and that of noted chains what chains do.
-use Rattle.std.proofs.Common.{◌≡◌, ◌≢◌, ℕ, Bool, true, false, cond, List, [], ◌∷◌, refl, sym, ap, ◌∙◌, Option, Some, None}
-use Rattle.std.specs.Ordering.{nat_cmp}
-use Rattle.std.specs.Map.{lookup}
+use Rattle.std.proofs.Common.{◌≡◌, ◌≢◌, ℕ, ◌<◌, ◌≤◌, ◌/◌, ◌^◌, Bool, true, false, cond, List, [], ◌∷◌, refl, sym, ap, ◌∙◌, subst, inl, inr, arith, Option, Some, None}
+use Rattle.std.specs.Ordering.{MatchOrdering, nat_cmp}
+use Rattle.std.specs.List.{AllByRecursion}
+use Rattle.std.specs.Cmp.{ranked}
+use Rattle.std.specs.declared.cmp.Ordering.{Ordering}
+use Rattle.std.specs.declared.cmp.Ordering.TheVariants.{Less, Equal, Greater}
+use Rattle.std.specs.Map.{keys_of, lookup}
 use Rattle.std.specs.BTreeMap.{insert_entry, is_at}
 use Rattle.rma_layout.specs.Placement.{Place, same_place}
 use Rattle.object_words.specs.Chains.{place_of}
 use Rattle.window_rule.specs.ContentsHold.{Lasts}
 use Rattle.window_rule.specs.Locks.{hold_of}
+use Rattle.window_rule.proofs.LockLemmas.{place_cases, same_place-false}
 use Rattle.object_moves.specs.declared.held.Mode.{Mode}
 use Rattle.object_moves.specs.declared.held.Mode.TheVariants as mode
 use Rattle.object_moves.specs.Held.{hold_as, hold_in, locks_in}
@@ -71,3 +76,22 @@ blocks_of-insert_entry raw blocks other entries =
     blocks_of-named (insert_entry nat_cmp entries raw blocks) other
     ∙ (named_at-insert_entry itself raw blocks other entries
     ∙ ap (cond (same_place (place_of raw) other) (Some blocks)) (sym (blocks_of-named entries other)))
+
+less_by : (x y : ℕ) (all : Ordering) → all ≡ Less → MatchOrdering all (x < y) (x ≡ y) (y < x) → x < y
+less_by x y Less e h = h
+less_by x y Equal e h = cc e
+less_by x y Greater e h = cc e
+
+-- where all keys are above one, no object is on a lower rank
+pub rising_chains : (raw : ℕ) (entries : List (ℕ × List Place))
+    → AllByRecursion (λ key. nat_cmp raw key ≡ Less) (keys_of entries) → (other : Place)
+    → blocks_of (chains_in entries) other ≢ None → (place_of raw).rank ≤ other.rank
+rising_chains raw [] above other noted = absurd (noted refl)
+rising_chains raw (one ∷ more) above other noted = elim (place_cases (place_of one.0) other) [
+  | inl here ↦
+      let less = less_by raw one.0 (nat_cmp raw one.0) above.0 (ranked raw one.0 _ refl) in
+      subst (λ (p : Place). (place_of raw).rank ≤ p.rank) here (omega (arith, less))
+  | inr differ ↦ rising_chains raw more above.1 other (λ none. noted
+      (ap (λ b. cond b (Some one.1) (blocks_of (chains_in more) other))
+      (same_place-false (place_of one.0) other differ) ∙ none))
+]

@@ -1,4 +1,4 @@
-ghost use Rattle.std.specs.Prelude.{◌≡◌, [], ◌∷◌, None, Some, IfNone, IfSome, OnErr, OnOk, is_some, if◌then◌else◌};
+ghost use Rattle.std.specs.Prelude.{◌≡◌, ◌≢◌, ◌≤◌, [], ◌∷◌, None, Some, IfNone, IfSome, OnErr, OnOk, is_some, if◌then◌else◌};
 ghost use Rattle.std.specs.Option.{option_copied};
 ghost use Rattle.rma_layout.specs.Placement.{Place, same_place};
 ghost use Rattle.object_moves.specs.Noted.{blocks_of};
@@ -60,10 +60,12 @@ impl NotedChains {
         Ok(())
     }
 
-    /// Takes the first object out, with its blocks.
+    /// Takes the first object out, with its blocks: no other is on a lower rank.
     pub fn pop_first(&mut self) -> Option<(DPtr, Blocks)>
         ensures some { IfSome result (λ one. self.old ≡ one ∷ self.new) }
         ensures once { IfSome result (λ one. blocks_of self.new one.0 ≡ None) }
+        ensures rising { IfSome result (λ one. (other : Place) → blocks_of self.new other ≢ None →
+            one.0.rank ≤ other.rank) }
         ensures none { IfNone result ((self.old ≡ []) × (self.new ≡ [])) }
     {
         let (raw, blocks) = self.blocks.pop_first()?;

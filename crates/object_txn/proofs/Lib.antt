@@ -14,3 +14,4 @@ pub mod PlanningFacts
 pub mod CommitFacts
 pub mod SurplusFacts
 pub mod EntryFacts
+pub mod MadeGone

@@ -43,6 +43,7 @@ pub(crate) fn plan_writes<L: Law>(
     requires chains { KnowsChains rank.old.view txn.old }
     ensures tied { IsTied window.now rank.new txn.new }
     ensures same { txn.new ≡ record txn.old { chains = txn.new.chains; taken = txn.new.taken } }
+    ensures more { (block : Place) → times block txn.old.taken.items ≤ times block txn.new.taken.items }
     ensures owns { OwnsNoted rank.old.view rank.new.view txn.old.taken.items txn.new.taken.items }
     ensures plans { IfOk result (λ plans. AreAllPlans window.now.shape txn.new.writes rank.new.view.known txn.new.taken.items plans.items) }
     ensures gains { IfOk result (λ plans. (block : Place) → times block (places_of rank.new.view.private) ≤ times block (places_of rank.old.view.private) + taken_for block plans.items) }

@@ -211,7 +211,7 @@ impl<'a, L: Law> WindowStore<'a, L> {
         ensures refused { IfErr result (λ why. RefusesCommit (window_state self.old.window.now self.old.rank self.old.txn) (window_state self.new.window.now self.new.rank self.new.txn) (said_by why)) }
         ensures explained { IfErr result (λ why. Explains self.old.window.now.shape self.old.rank.view self.new.rank.view why) }
         ensures alone { IsAlone self.old.window.now.shape self.old.rank.view → IfErr result (λ why. is_for_others why ≡ false) }
-        ensures given { OnOk result (GivesSurplus self.old.rank self.new.rank) }
+        ensures given { OnOk result (GivesSurplus self.old.txn.taken.items self.old.txn.writes self.old.rank self.new.rank) }
         ensures given_back { OnErr result (GivesTaken self.old.txn.taken.items self.old.rank self.new.rank) }
         ensures free { IsFree self.new.rank.view }
         ensures recalls { Recalls self.old.rank.view self.new.rank.view }

@@ -6,7 +6,7 @@ use Rattle.window_rule.specs.View.{View}
 use Rattle.window_rule.specs.Locks.{hold_of}
 use Rattle.window_rule.specs.Pool.{Renews, bound_of, headed, renewed, without_bound}
 use Rattle.fabric.specs.Window.{RankModel}
-use Rattle.block_pool.specs.Drains.{HasLowTag}
+use Rattle.block_pool.specs.Alone.{HasLowTag}
 use Rattle.block_pool.specs.Moves.{OnlyTaken}
 use Rattle.block_pool.specs.Gives.{Frees, IsForUse, Keeps, MayGive, OnlyBlocks}
 

@@ -1,10 +1,14 @@
 use Rattle.std.proofs.Common.{◌≡◌, ◌+◌, ◌<◌, ◌^◌, sym, ap, ◌∙◌, subst, refl, inl, inr, arith, Some}
+use Rattle.std.proofs.lemmas.Bool.{false≢true}
 use Rattle.window_rule.specs.Pool.{MayBeFree}
 use Rattle.window_rule.specs.Spares.{HasSpares, first_spare_of}
 use Rattle.window_rule.specs.Trails.{trail_of}
 use Rattle.window_rule.proofs.Trails.{follows_trans, goes_on-refl}
 use Rattle.block_pool.specs.Moves.{Failed}
-use Rattle.block_pool.proofs.MovesKept.{failed_none, failed_sum}
+use Rattle.block_pool.specs.Alone.{PushesAlone}
+use Rattle.block_pool.specs.declared.giving.Push.TheVariants.{Made, Refused}
+use Rattle.block_pool.proofs.GivenAlone.{freed_alone, kept_alone}
+use Rattle.block_pool.proofs.MovesKept.{alone_still, failed_none, failed_sum}
 use Rattle.block_pool.proofs.GivesKept.{frees_after, keeps_after, looked_since, may_after, relinks_after}
 use Rattle.block_pool.proofs.ForUse.{frees_leaves_use, keeps_leaves_use}
 use Rattle.fabric.proofs.SparesJoined.{first_spare_small}
@@ -18,6 +22,7 @@ loop-init g c = record {
       c.requires.window c.first_spare-spare.ensures.has;
   may = c.requires.may;
   free = λ some. absurd (omega arith);
+  alone = λ alone. (refl, refl);
   follows = goes_on-refl (trail_of c.args.rank.now.view);
 }
 
@@ -37,6 +42,9 @@ loop-preserved g c =
       has = more.0;
       may = more.1;
       free = λ some. c.in-Missed.ensures.free;
+      alone = λ alone. absurd (false≢true
+          (sym (c.in-Missed.ensures.alone (alone_still c.args.window.now.shape
+          c.args.rank.now.view c.loop.rank.view was.follows alone)).idle));
       follows = follows_trans c.args.rank.now.view c.loop.rank.view c.try_push.new.rank.view
           was.follows c.in-Missed.ensures.follows;
     }
@@ -146,3 +154,27 @@ returns-clause-stay g c = λ other ne ready.
     c.keep-2.ensures.spares c.keep-2.ensures.view
     (inr (subst (λ n. Failed c.args.block.rank n c.args.rank.now.view c.loop.rank.view) all
     was.failed)))
+
+pub returns-in-Made-clause-alone : goal.returns-in-Made-clause-alone
+returns-in-Made-clause-alone g c = λ alone.
+    let was = c.loop.invariant in
+    let told = c.in-Made.ensures.alone (alone_still c.args.window.now.shape c.args.rank.now.view
+    c.loop.rank.view was.follows alone) in
+    freed_alone c.args.block c.args.rank.now c.try_push.new.rank
+    (subst (λ r. PushesAlone c.args.block r.view c.try_push.new.rank.view Made)
+    (was.alone alone).0 told)
+    (frees_after c.args.window.now.shape c.args.block c.args.rank.now c.loop.rank
+    c.try_push.new.rank was.relinks c.in-Made.ensures.pushes)
+
+pub returns-in-Refused-clause-alone : goal.returns-in-Refused-clause-alone
+returns-in-Refused-clause-alone g c = λ alone.
+    let was = c.loop.invariant in
+    let told = c.in-Refused.ensures.alone (alone_still c.args.window.now.shape c.args.rank.now.view
+    c.loop.rank.view was.follows alone) in
+    kept_alone c.args.block _ c.args.rank.now c.try_push.new.rank c.keep.new.rank
+    (subst (λ r. PushesAlone c.args.block r.view c.try_push.new.rank.view Refused)
+    (was.alone alone).0 told)
+    c.keep.ensures.view
+
+pub returns-clause-alone : goal.returns-clause-alone
+returns-clause-alone g c = λ alone. absurd (omega (arith, (c.loop.invariant.alone alone).1))

@@ -1,4 +1,5 @@
 use Rattle.std.proofs.Common.{◌≡◌, ◌<◌, sym, ap, ◌∙◌, subst, refl, arith}
+use Rattle.std.proofs.lemmas.Bool.{false≢true}
 use Rattle.window_rule.specs.Partition.{places_of, times}
 use Rattle.window_rule.specs.Pool.{Heads, own_next_of, with_link}
 use Rattle.window_rule.specs.Spares.{HasSpares, IsNoSpare}
@@ -7,6 +8,8 @@ use Rattle.block_pool.specs.Gives.{OnlyBlocks}
 use Rattle.block_pool.specs.Moves.{Looked}
 use Rattle.block_pool.proofs.TriesKept.{head_looked}
 use Rattle.block_pool.proofs.GivesKept.{freed_counted, freed_others, freed_view, may_push, missed_fails, missed_others, missed_places, missed_view, relinked_no_spare}
+use Rattle.block_pool.proofs.GivenAlone.{made_alone, refused_alone}
+use Rattle.block_pool.proofs.MovesKept.{alone_still}
 use Rattle.block_pool.proofs.giving.try_push.Goals as goal
 
 pub returns-then-tag-eq-LAST_TAG-clause-pushes : goal.returns-then-tag-eq-LAST_TAG-clause-pushes
@@ -96,3 +99,26 @@ returns-in-Err-clause-pushes g c =
       },
       missed_fails _ _ _ _ _ _ _ told link _ _ missed,
     )
+
+pub returns-then-tag-eq-LAST_TAG-clause-alone : goal.returns-then-tag-eq-LAST_TAG-clause-alone
+returns-then-tag-eq-LAST_TAG-clause-alone g c = λ alone.
+    refused_alone c.args.window.now.shape c.args.block c.head-head.result c.args.rank.now.view
+    c.head-head.new.self.view
+    (subst (λ r. Heads c.args.window.now.shape r c.args.rank.now.view c.head-head.result
+    c.head-head.new.self.view) c.rank-home.ensures c.head-head.ensures.view) alone
+    (sym c.tag.ensures.tag ∙ c.if-tag-eq-LAST_TAG.true)
+
+pub returns-in-Ok-clause-alone : goal.returns-in-Ok-clause-alone
+returns-in-Ok-clause-alone g c = λ alone.
+    made_alone c.args.window.now.shape c.args.block c.head-head.result c.args.rank.now.view
+    c.head-head.new.self.view
+    (subst (λ r. Heads c.args.window.now.shape r c.args.rank.now.view c.head-head.result
+    c.head-head.new.self.view) c.rank-home.ensures c.head-head.ensures.view) alone
+    c.first-next.result _ _ c.link.ensures.view c.in-Ok.ensures.view
+
+pub returns-in-Err-clause-alone : goal.returns-in-Err-clause-alone
+returns-in-Err-clause-alone g c = λ alone. absurd (false≢true (c.in-Err.ensures.alone
+    (alone_still c.args.window.now.shape c.head-head.new.self.view c.link.new.self.view
+    c.link.ensures.follows
+    (alone_still c.args.window.now.shape c.args.rank.now.view c.head-head.new.self.view
+    c.head-head.ensures.follows alone))))

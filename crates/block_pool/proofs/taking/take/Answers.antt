@@ -1,9 +1,11 @@
 use Rattle.std.proofs.Common.{refl, subst, sym, ap, ◌∙◌, arith}
+use Rattle.block_pool.specs.Alone.{TakesAlone}
 use Rattle.block_pool.specs.Moves.{OnlyTaken}
 use Rattle.block_pool.specs.Takes.{Tries}
 use Rattle.window_rule.specs.Spares.{HasSpares}
 use Rattle.block_pool.proofs.ForUse.{spare_leaves_use, take_leaves_use}
 use Rattle.block_pool.proofs.SparesTaken.{only_taken, takes_free, takes_spare}
+use Rattle.block_pool.proofs.TakenAlone.{spare_alone}
 use Rattle.block_pool.proofs.taking.take.Goals as goal
 
 pub returns-then-first_spare-eq0-clause-taken : goal.returns-then-first_spare-eq0-clause-taken
@@ -47,3 +49,14 @@ returns-then-first_spare-eq0-clause-only g c =
 pub returns-else-first_spare-eq0-clause-only : goal.returns-else-first_spare-eq0-clause-only
 returns-else-first_spare-eq0-clause-only g c =
     subst (OnlyTaken c.args.rank.now.view) (sym c.take_spare.ensures.taken.unmoved) refl
+
+pub returns-then-first_spare-eq0-clause-alone : goal.returns-then-first_spare-eq0-clause-alone
+returns-then-first_spare-eq0-clause-alone g c = λ alone.
+    subst (λ spare. TakesAlone c.args.window.now.shape c.args.home spare c.args.rank.now.view
+    c.take_free.new.rank.view c.take_free.result)
+    (sym (sym c.first_spare.ensures.first ∙ c.if-first_spare-eq0.true))
+    (c.take_free.ensures.alone alone)
+
+pub returns-else-first_spare-eq0-clause-alone : goal.returns-else-first_spare-eq0-clause-alone
+returns-else-first_spare-eq0-clause-alone g c = λ alone.
+    spare_alone _ _ _ _ _ _ c.take_spare.ensures.taken.some_spare c.take_spare.ensures.taken.bounds

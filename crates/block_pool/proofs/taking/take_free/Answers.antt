@@ -1,6 +1,8 @@
 use Rattle.std.proofs.Common.{◌≡◌, ◌+◌, ◌-◌, sym, ◌∙◌, subst, refl, arith}
+use Rattle.std.proofs.lemmas.Bool.{false≢true}
 use Rattle.window_rule.specs.Trails.{trail_of}
 use Rattle.window_rule.proofs.Trails.{follows_trans, goes_on-refl}
+use Rattle.block_pool.specs.Alone.{TakesAlone}
 use Rattle.block_pool.specs.Moves.{Failed}
 use Rattle.block_pool.specs.Takes.{Tries}
 use Rattle.block_pool.proofs.MovesKept.{alone_still, busy_after, failed_none, tries_after, tries_any}
@@ -12,6 +14,7 @@ loop-init g c = record {
   spares = refl;
   unmoved = refl;
   failed = failed_none c.args.home c.args.rank.now.view;
+  alone = λ alone. refl;
   follows = goes_on-refl (trail_of c.args.rank.now.view);
 }
 
@@ -28,8 +31,11 @@ returns-then-not-is_busy g c =
           (tries_after c.args.window.now.shape c.args.home c.args.rank.now.view c.loop.rank.view
           c.try_pop-answer.new.rank.view was.unmoved was.follows _ was.failed _
           c.try_pop-answer.ensures.taken);
-      alone = λ alone. c.try_pop-answer.ensures.alone (alone_still c.args.window.now.shape c.args.rank.now.view
-          c.loop.rank.view was.follows alone);
+      alone = λ alone.
+          subst (λ v. TakesAlone c.args.window.now.shape c.args.home 0 v
+          c.try_pop-answer.new.rank.view c.try_pop-answer.result) (was.alone alone)
+          (c.try_pop-answer.ensures.alone (alone_still c.args.window.now.shape
+          c.args.rank.now.view c.loop.rank.view was.follows alone));
       follows = follows_trans c.args.rank.now.view c.loop.rank.view
           c.try_pop-answer.new.rank.view was.follows c.try_pop-answer.ensures.follows;
     }
@@ -46,6 +52,10 @@ loop-preserved g c =
       unmoved = more.0;
       failed = subst (λ n. Failed c.args.home n c.args.rank.now.view c.try_pop-answer.new.rank.view)
           next more.1;
+      alone = λ alone. absurd (false≢true
+          (sym (c.try_pop-answer.ensures.alone (alone_still c.args.window.now.shape
+          c.args.rank.now.view c.loop.rank.view was.follows alone)).idle
+          ∙ (sym c.is_busy.ensures ∙ c.if-not-is_busy.false)));
       follows = follows_trans c.args.rank.now.view c.loop.rank.view
           c.try_pop-answer.new.rank.view was.follows c.try_pop-answer.ensures.follows;
     }
@@ -63,8 +73,11 @@ returns g c =
           c.try_pop.new.rank.view c.try_pop.result) all
           (tries_after c.args.window.now.shape c.args.home c.args.rank.now.view c.loop.rank.view
           c.try_pop.new.rank.view was.unmoved was.follows _ was.failed _ c.try_pop.ensures.taken);
-      alone = λ alone. c.try_pop.ensures.alone (alone_still c.args.window.now.shape c.args.rank.now.view
-          c.loop.rank.view was.follows alone);
+      alone = λ alone.
+          subst (λ v. TakesAlone c.args.window.now.shape c.args.home 0 v c.try_pop.new.rank.view
+          c.try_pop.result) (was.alone alone)
+          (c.try_pop.ensures.alone (alone_still c.args.window.now.shape c.args.rank.now.view
+          c.loop.rank.view was.follows alone));
       follows = follows_trans c.args.rank.now.view c.loop.rank.view
           c.try_pop.new.rank.view was.follows c.try_pop.ensures.follows;
     }

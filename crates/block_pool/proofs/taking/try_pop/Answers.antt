@@ -2,10 +2,11 @@ use Rattle.std.proofs.Common.{◌≡◌, ◌≢◌, ◌∙◌, sym, ap, subst, a
 use Rattle.std.proofs.lemmas.Bool.{false≢true}
 use Rattle.object_words.specs.Blocks.{on_rank}
 use Rattle.free_list.specs.Heads.{first_of}
-use Rattle.window_rule.specs.Pool.{Nexts}
+use Rattle.window_rule.specs.Pool.{Nexts, note_of, raised}
 use Rattle.window_rule.proofs.Trails.{follows_trans}
 use Rattle.block_pool.proofs.MovesKept.{alone_still}
-use Rattle.block_pool.proofs.TriesKept.{head_block, head_looked, head_unmoved, may_pop, miss_refuses, miss_unmoved, pop_pops}
+use Rattle.block_pool.proofs.TriesKept.{head_block, head_looked, head_unmoved, may_pop, miss_refuses, miss_unmoved, noted_bounds, pop_pops}
+use Rattle.block_pool.proofs.TakenAlone.{empty_alone, taken_alone, worn_alone}
 use Rattle.block_pool.proofs.taking.try_pop.Goals as goal
 
 pub returns-then-tag-eq-LAST_TAG-clause-taken : goal.returns-then-tag-eq-LAST_TAG-clause-taken
@@ -26,6 +27,16 @@ returns-then-block-eq0-clause-taken g c = (
     omega (arith, c.tag.ensures.tag, c.tag.ensures.small, c.if-tag-eq-LAST_TAG.false),
   ),
 )
+
+pub returns-then-tag-eq-LAST_TAG-clause-alone : goal.returns-then-tag-eq-LAST_TAG-clause-alone
+returns-then-tag-eq-LAST_TAG-clause-alone g c = λ alone.
+    worn_alone _ _ _ _ _ c.head-head.ensures.view alone
+    (sym c.tag.ensures.tag ∙ c.if-tag-eq-LAST_TAG.true)
+
+pub returns-then-block-eq0-clause-alone : goal.returns-then-block-eq0-clause-alone
+returns-then-block-eq0-clause-alone g c = λ alone.
+    empty_alone _ _ _ _ _ c.head-head.ensures.view alone
+    (sym c.first-block.ensures.first ∙ c.if-block-eq0.true)
 
 pub next-next-requires-clause-block : goal.next-next-requires-clause-block
 next-next-requires-clause-block g c =
@@ -56,6 +67,16 @@ returns-in-Ok-clause-taken g c =
           told.1 told.2,
       told.3,
     )
+
+pub returns-in-Ok-clause-alone : goal.returns-in-Ok-clause-alone
+returns-in-Ok-clause-alone g c = λ alone.
+    let two = c.next-next.new.self.view in
+    let same = ap (λ v. v.bounds) c.next-next.ensures.view.view
+    ∙ noted_bounds (note_of c.head-head.new.self.view.notes c.new-at.result.rank) c.new-at.result
+    c.next-next.result c.head-head.new.self.view in
+    taken_alone _ _ _ _ _ c.head-head.ensures.view alone
+    (λ none. c.if-block-eq0.false (c.first-block.ensures.first ∙ none)) c.in-Ok.taken _
+    (ap (λ v. v.bounds) c.in-Ok.ensures.view.1 ∙ ap (raised c.args.home) same)
 
 pub returns-in-Err-clause-taken : goal.returns-in-Err-clause-taken
 returns-in-Err-clause-taken g c =

@@ -1,4 +1,5 @@
-use Rattle.std.proofs.Common.{arith, List, ◌∙◌, sym, ap, subst}
+use Rattle.std.proofs.Common.{◌≢◌, arith, List, [], ◌∙◌, sym, ap, subst}
+use Rattle.object_words.specs.Contents.{content_of}
 use Rattle.window_rule.specs.View.{OwnBlock}
 use Rattle.window_rule.specs.Partition.{places_of, times}
 use Rattle.window_rule.proofs.Trails.{follows_trans}
@@ -7,6 +8,7 @@ use Rattle.object_txn.specs.declared.plan.Plan.{Plan}
 use Rattle.object_txn.specs.Plans.{surplus_in, taken_for}
 use Rattle.object_txn.proofs.EntryFacts.{commits, entry_same, recalls_all}
 use Rattle.object_txn.proofs.Explaining.{explains_later, never_for_others, recalls_by}
+use Rattle.object_txn.proofs.MadeGone.{gives_fewer, made_gone}
 use Rattle.object_txn.proofs.StoreFacts.{continues, recalled, refuses_commit}
 use Rattle.object_txn.proofs.window_store.WindowStore.commit.Goals as goal
 
@@ -92,6 +94,23 @@ returns-in-Ok-clause-given g c =
         ap (λ (l : List Plan). times block (surplus_in l)) (c.deref.ensures.value ∙ sym c.deref-in-Ok.ensures.value),
       );
       given = back.all.given;
+      made = λ object taken words.
+          let planned = c.plan_writes.new in
+          let same = c.plan_writes.ensures.same in
+          let plans = c.in-Ok.ensures.plans in
+          let left = made_gone g.L.Law.fits c.args.self.now.window.now planned.rank planned.txn _
+          c.in-Ok.ensures.truths c.plan_writes.ensures.tied plans object
+          (omega (arith, taken, c.in-Ok.ensures.more object))
+          (subst (λ w. content_of w object ≢ []) (sym (ap (λ (t : Txn). t.writes) same)) words)
+          (times object (places_of back.left.view.private))
+          (omega (
+            arith,
+            c.write_planned-number.ensures.exchanged object,
+            ap (λ (own : List OwnBlock). times object (places_of own)) back.private,
+            ap (taken_for object) c.deref.ensures.value,
+            ap (λ (l : List Plan). times object (surplus_in l)) c.deref.ensures.value,
+          )) in
+          omega (arith, left, gives_fewer object back.all.order back.left c.leave_committed.new.rank back.all.given);
     }
 
 pub returns-in-Err-clause-given_back : goal.returns-in-Err-clause-given_back
