@@ -9,28 +9,28 @@ pub ends-within : (start : ℕ) (stops : List ℕ) (whole : ℕ) → AreEnds sta
 ends-within start [] whole is = omega (arith, is)
 ends-within start (stop ∷ stops) whole are = omega (arith, are.0, ends-within stop stops whole are.1)
 
-pub rows-length : (start : ℕ) (stops numbers : List ℕ) → length (rows_from start stops numbers) ≡ length stops
-rows-length start [] numbers = refl
-rows-length start (stop ∷ stops) numbers = ap suc (rows-length stop stops numbers)
+pub rows-length : {X : Type 0} (start : ℕ) (stops : List ℕ) (items : List X) → length (rows_from start stops items) ≡ length stops
+rows-length start [] items = refl
+rows-length start (stop ∷ stops) items = ap suc (rows-length stop stops items)
 
 -- ---- a row more
 
-range-kept : (numbers more : List ℕ) (a b : ℕ) → a ≤ b → b ≤ length numbers → slice_range (numbers ++ more) a b ≡ slice_range numbers a b
-range-kept numbers more a b up within =
-    ap (take (b - a)) (drop-append-le a numbers more (omega (arith, up, within)))
-    ∙ take-append-le (b - a) (drop a numbers) more (omega (arith, length-drop a numbers, up, within))
+range-kept : {X : Type 0} (items more : List X) (a b : ℕ) → a ≤ b → b ≤ length items → slice_range (items ++ more) a b ≡ slice_range items a b
+range-kept items more a b up within =
+    ap (take (b - a)) (drop-append-le a items more (omega (arith, up, within)))
+    ∙ take-append-le (b - a) (drop a items) more (omega (arith, length-drop a items, up, within))
 
-range-new : (numbers more : List ℕ) → slice_range (numbers ++ more) (length numbers) (length numbers + length more) ≡ more
-range-new numbers more =
-    ap (take ((length numbers + length more) - length numbers)) (drop-append_seam numbers more)
-    ∙ take_all ((length numbers + length more) - length numbers) more (omega arith)
+range-new : {X : Type 0} (items more : List X) → slice_range (items ++ more) (length items) (length items + length more) ≡ more
+range-new items more =
+    ap (take ((length items + length more) - length items)) (drop-append_seam items more)
+    ∙ take_all ((length items + length more) - length items) more (omega arith)
 
-pub row-more : (start : ℕ) (stops numbers more : List ℕ) → AreEnds start stops (length numbers) → rows_from start (stops ++ (length numbers + length more) ∷ []) (numbers ++ more) ≡ rows_from start stops numbers ++ more ∷ []
-row-more start [] numbers more is =
-    ap (λ (a : ℕ). slice_range (numbers ++ more) a (length numbers + length more) ∷ []) is ∙ ap (λ (row : List ℕ). row ∷ []) (range-new numbers more)
-row-more start (stop ∷ stops) numbers more are =
-    ap (λ (row : List ℕ). row ∷ rows_from stop (stops ++ (length numbers + length more) ∷ []) (numbers ++ more)) (range-kept numbers more start stop are.0 (ends-within stop stops (length numbers) are.1))
-    ∙ ap (λ (rows : List (List ℕ)). slice_range numbers start stop ∷ rows) (row-more stop stops numbers more are.1)
+pub row-more : {X : Type 0} (start : ℕ) (stops : List ℕ) (items more : List X) → AreEnds start stops (length items) → rows_from start (stops ++ (length items + length more) ∷ []) (items ++ more) ≡ rows_from start stops items ++ more ∷ []
+row-more start [] items more is =
+    ap (λ (a : ℕ). slice_range (items ++ more) a (length items + length more) ∷ []) is ∙ ap (λ row. row ∷ []) (range-new items more)
+row-more start (stop ∷ stops) items more are =
+    ap (λ row. row ∷ rows_from stop (stops ++ (length items + length more) ∷ []) (items ++ more)) (range-kept items more start stop are.0 (ends-within stop stops (length items) are.1))
+    ∙ ap (λ rows. slice_range items start stop ∷ rows) (row-more stop stops items more are.1)
 
 pub ends-more : (start : ℕ) (stops : List ℕ) (whole more : ℕ) → AreEnds start stops whole → AreEnds start (stops ++ (whole + more) ∷ []) (whole + more)
 ends-more start [] whole more is = (omega (arith, is), refl)
@@ -43,11 +43,11 @@ start-behind start [] place below = absurd (omega (arith, below))
 start-behind start (stop ∷ stops) zero below = refl
 start-behind start (stop ∷ stops) (suc place) below = start-behind stop stops place (omega (arith, below))
 
-pub row-there : (start : ℕ) (stops numbers : List ℕ) (place : ℕ) → place < length stops
-    → slice_get (rows_from start stops numbers) place ≡ Some (slice_range numbers (start_from start stops place) (get_or stops place 0))
-row-there start [] numbers place below = absurd (omega (arith, below))
-row-there start (stop ∷ stops) numbers zero below = refl
-row-there start (stop ∷ stops) numbers (suc place) below = row-there stop stops numbers place (omega (arith, below))
+pub row-there : {X : Type 0} (start : ℕ) (stops : List ℕ) (items : List X) (place : ℕ) → place < length stops
+    → slice_get (rows_from start stops items) place ≡ Some (slice_range items (start_from start stops place) (get_or stops place 0))
+row-there start [] items place below = absurd (omega (arith, below))
+row-there start (stop ∷ stops) items zero below = refl
+row-there start (stop ∷ stops) items (suc place) below = row-there stop stops items place (omega (arith, below))
 
 pub row-within : (start : ℕ) (stops : List ℕ) (whole place : ℕ) → AreEnds start stops whole → place < length stops
     → (start_from start stops place ≤ get_or stops place 0) × (get_or stops place 0 ≤ whole)

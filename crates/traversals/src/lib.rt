@@ -3,8 +3,8 @@
 
 mod flat_edge;
 mod flat_graph;
+mod flat_rows;
 mod gathering;
-mod label_rows;
 mod labelled;
 mod questions;
 #[cfg(test)]
@@ -12,4 +12,4 @@ mod tests;
 
 pub use flat_edge::FlatEdge;
 pub use flat_graph::FlatGraph;
-pub use label_rows::LabelRows;
+pub use flat_rows::{FlatRows, LabelRows};

@@ -1,7 +1,7 @@
 use Rattle.std.proofs.Common.{◌≡◌, ◌-◌, ◌<◌, suc, length, sym, ap, ◌∙◌, arith}
 use Rattle.traversals.specs.Rows.{start_from}
 use Rattle.traversals.proofs.Rows.{start-behind}
-use Rattle.traversals.proofs.label_rows.start_of.Goals as goal
+use Rattle.traversals.proofs.flat_rows.start_of.Goals as goal
 
 pub returns : goal.returns
 returns c =
