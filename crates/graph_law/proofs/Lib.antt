@@ -1,3 +1,5 @@
 pub mod Standing
 pub mod Doing
 pub mod Looking
+pub mod Writing
+pub mod VertexChanged
