@@ -6,6 +6,7 @@ use Rattle.std.specs.Str.{bytes_eq}
 use Rattle.gdi_kinds.specs.declared.call.Call.TheVariants.{Get}
 use Rattle.gdi_kinds.specs.declared.reply.Reply.{Reply}
 use Rattle.gdi_kinds.specs.declared.reply.Reply.TheVariants.{NoProp, NoType, NoVertex}
+use Rattle.gdi_kinds.specs.declared.value.Kind.TheVariants as kind
 use Rattle.gdi_kinds.specs.declared.value.Value.{Value}
 use Rattle.rma_layout.specs.Shape.{Shape}
 use Rattle.rma_layout.specs.Ranges.{IsInRange}
@@ -57,14 +58,14 @@ same_numbers name [] = refl
 same_numbers name (one ∷ more) = ap (λ o. cond (bytes_eq name one.name) (Some 0) (option_map suc o)) (same_numbers name more)
 
 marked_as : (types : List graph.PropType) (n : ℕ) (line : TypeLine) → slice_get (map (λ (one : graph.PropType). record { name = one.name; kind = one.kind; many = one.many }) types) n ≡ Some line
-    → option_map_or (λ (type : graph.PropType). type.many) (item_at types n) false ≡ line.many
+    → (option_map_or (λ (type : graph.PropType). type.many) (item_at types n) false ≡ line.many) × (option_map_or (λ (type : graph.PropType). type.kind) (item_at types n) kind.Int ≡ line.kind)
 marked_as [] n line never = absurd cc
-marked_as (one ∷ more) zero line is = cc
+marked_as (one ∷ more) zero line is = (cc, cc)
 marked_as (one ∷ more) (suc n) line is = marked_as more n line is
 
 type_in : (g : Graph) (name : Name) (found : Option PropType) → IsTypeOf name found (names_of g) → IsTypeIn g name found
 type_in g name None is = sym (same_numbers name g.types) ∙ is
-type_in g name (Some type) is = (sym (same_numbers name g.types) ∙ is.0, marked_as g.types type.number _ is.1)
+type_in g name (Some type) is = let as_line = marked_as g.types type.number _ is.1 in (sym (same_numbers name g.types) ∙ is.0, as_line.0, as_line.1)
 
 pub finds_type : {N : Type 0} {old new : StoreState N} {name : Name} {found : Option PropType} → Knows Stands old → Tells HasNames (IsTypeOf name found) old new → FindsType name old new found
 finds_type {N} {old} {new} {name} {found} knows tells = record {

@@ -5,7 +5,7 @@ use Rattle.rma_layout.specs.Shape.{Shape}
 use Rattle.rma_layout.specs.Placement.{Place, bucket_of, home_of, metadata}
 use Rattle.object_words.specs.Contents.{Agrees, Contents, overlay, words_at}
 use Rattle.graph_model.specs.Graph.{Graph, Name, is_vertex, vertex_at}
-use Rattle.graph_model.specs.Lookups.{is_marked, type_number}
+use Rattle.graph_model.specs.Lookups.{is_marked, kind_at, type_number}
 use Rattle.holder_codec.specs.declared.meta_holder.MetaHolder.{MetaHolder}
 use Rattle.holder_codec.specs.declared.vertex_holder.VertexHolder.{VertexHolder}
 use Rattle.holder_codec.specs.Represents.{IsUnreserved, Represents, holder_of, object_of}
@@ -20,9 +20,10 @@ use Rattle.graph_law.specs.Calls.{Stands}
 abbrev pub IsAbout : ℕ → Shape → Place → Type 0
 IsAbout id shape place = (place ≡ metadata) ⊎ (place ≡ bucket_of shape id) ⊎ IsUnreserved shape (home_of shape id) place
 
--- the type of a name in a graph, by its number and its mark
+-- the type of a name in a graph, by its number, its mark and its kind
 abbrev pub IsTypeIn : Graph → Name → Option PropType → Type 0
-IsTypeIn g name found = MatchOption found (type_number g name ≡ None) (λ type. (type_number g name ≡ Some type.number) × (is_marked g type.number ≡ type.many))
+IsTypeIn g name found = MatchOption found (type_number g name ≡ None) (λ type.
+    (type_number g name ≡ Some type.number) × (is_marked g type.number ≡ type.many) × (kind_at g type.number ≡ type.kind))
 
 module _ {N : Type 0} where
   -- a fact of each store of a graph, with that graph, at which the transaction may be after it read
@@ -30,7 +31,7 @@ module _ {N : Type 0} where
   AtEachGraph old new Holds = (store : Contents) (g : Graph) (is : Represents old.shape (overlay store old.writes) g) → Agrees new.reads store
       → Holds g (overlay store old.writes) is
 
-  -- a vertex as its object holds it, and none where there is none. The contracts of private functions alone cite these
+  -- a vertex as its object holds it, and none where there is none
   pub record FindsVertex (id : ℕ) (old new : StoreState N) (found : Option VertexHolder) : Type 0 where
     pub looks : Looks old new
     pub stands : Knows Stands new

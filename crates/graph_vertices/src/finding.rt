@@ -18,7 +18,7 @@ use rma_layout::DPtr;
 use std::alloc::Global;
 
 /// The vertex of an identifier as its object holds it.
-pub(crate) fn find_vertex<S: Store<GraphLaw>>(
+pub fn find_vertex<S: Store<GraphLaw>>(
     alloc: Global,
     store: &mut S,
     id: u64,
@@ -41,7 +41,7 @@ pub(crate) fn find_vertex<S: Store<GraphLaw>>(
 }
 
 /// The names of labels and property types.
-pub(crate) fn find_names<S: Store<GraphLaw>>(
+pub fn find_names<S: Store<GraphLaw>>(
     alloc: Global,
     store: &mut S,
 ) -> Result<MetaHolder, S::Refused>
@@ -57,7 +57,7 @@ pub(crate) fn find_names<S: Store<GraphLaw>>(
 }
 
 /// The property type of a name.
-pub(crate) fn find_type<S: Store<GraphLaw>>(
+pub fn find_type<S: Store<GraphLaw>>(
     alloc: Global,
     store: &mut S,
     name: &Name,

@@ -8,7 +8,7 @@ use holder_codec::HeldProps;
 use std::alloc::Global;
 
 /// The values of a property by the number of its type.
-pub(crate) fn values_with(
+pub fn values_with(
     alloc: Global,
     props: &HeldProps,
     number: u32,
@@ -26,7 +26,7 @@ pub(crate) fn values_with(
 }
 
 /// The reply to a call that asks for the values of a property. NoProp where there are none.
-pub(crate) fn reply_with(many: bool, values: ValueList) -> Reply
+pub fn reply_with(many: bool, values: ValueList) -> Reply
     ensures { result ≡ (if length values == 0 then reply.NoProp else reply_of_values many values) }
 {
     if many && values.len() > 0 {

@@ -8,7 +8,7 @@ use holder_codec::{HeldProps, TypeList};
 use std::alloc::Global;
 
 /// The names of labels by their numbers.
-pub(crate) fn names_of(
+pub fn names_of(
     alloc: Global,
     names: &NameList,
     labels: &U32List,
@@ -26,7 +26,7 @@ pub(crate) fn names_of(
 }
 
 /// A line for each value of properties.
-pub(crate) fn lines_of(
+pub fn lines_of(
     alloc: Global,
     types: &TypeList,
     props: &HeldProps,
