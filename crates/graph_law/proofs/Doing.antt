@@ -104,15 +104,20 @@ nothing_apart rank never = cc
 object_apart : (object : Place) (rank : ℕ) → names_object object ≡ names_rank rank → ⊥
 object_apart object rank never = cc
 
--- what makes no object names no rank
-pub names_no_rank : {N : Type 0} {Reached : Place → Type 0} {old new : StoreState N} {said : Said} → RefusesReach Reached (λ _. ⊥) old new said → (rank : ℕ) → said.names ≡ names_rank rank → ⊥
-names_no_rank {Reached = Reached} {old = old} {said = said} refused rank named = none rank refused.names named
-  where
-    none : (rank : ℕ) → (said.names ≡ names_nothing) ⊎ ((object : Place) × (said.names ≡ names_object object) × (Reached object ⊎ IsSome (words_at old.reads object) ⊎ ⊥))
-        ⊎ ((other : ℕ) × (said.names ≡ names_rank other) × ⊥) → said.names ≡ names_rank rank → ⊥
-    none rank (inl nothing) named = nothing_apart rank (sym nothing ∙ named)
-    none rank (inr (inl one)) named = object_apart one.0 rank (sym one.1 ∙ named)
-    none rank (inr (inr never)) named = never.2
+same_rank : (one other : ℕ) → names_rank one ≡ names_rank other → one ≡ other
+same_rank one other is = cc
 
+-- a rank that is named is one on which an object is made
+pub made_where_named : {N : Type 0} {Reached : Place → Type 0} {Makes : ℕ → Type 0} {old new : StoreState N} {said : Said} → RefusesReach Reached Makes old new said
+    → (rank : ℕ) → said.names ≡ names_rank rank → Makes rank
+made_where_named {Reached = Reached} {Makes = Makes} {old = old} {said = said} refused rank named = of refused.names
+  where
+    of : (said.names ≡ names_nothing) ⊎ ((object : Place) × (said.names ≡ names_object object) × (Reached object ⊎ IsSome (words_at old.reads object) ⊎ Makes object.rank))
+        ⊎ ((other : ℕ) × (said.names ≡ names_rank other) × Makes other) → Makes rank
+    of (inl nothing) = absurd (nothing_apart rank (sym nothing ∙ named))
+    of (inr (inl one)) = absurd (object_apart one.0 rank (sym one.1 ∙ named))
+    of (inr (inr other)) = subst Makes (same_rank other.0 rank (sym other.1 ∙ named)) other.2
+
+-- what makes no object names no rank
 pub refuses_no_rank : {N : Type 0} {call : Call} {Reached : Place → Type 0} {old new : StoreState N} {said : Said} → RefusesReach Reached (λ _. ⊥) old new said → RefusesCall call old said
-refuses_no_rank refused = record { makes = λ _ rank named _ _. absurd (names_no_rank refused rank named) }
+refuses_no_rank refused = record { makes = λ _ rank named _ _. absurd (made_where_named refused rank named) }

@@ -1,11 +1,13 @@
 -- A call that looks: what it answers, and what it read.
-use Rattle.std.proofs.Common.{◌≡◌, ◌∙◌, ℕ, ◌/◌, ◌+◌, ◌<◌, mod-lt, true, Some, None, refl, sym, ap, arith, ◌⊎◌, inl, inr}
+use Rattle.std.proofs.Common.{◌≡◌, ◌∙◌, ℕ, ◌/◌, ◌+◌, ◌<◌, mod-lt, true, List, Some, None, IsSome, refl, sym, ap, subst, arith, ◌⊎◌, inl, inr}
+use Rattle.std.specs.Prelude.{is_some}
 use Rattle.gdi_kinds.specs.declared.call.Call.{Call}
 use Rattle.gdi_kinds.specs.declared.reply.Reply.{Reply}
 use Rattle.rma_layout.specs.Placement.{Place, bucket_of, home_of, metadata}
 use Rattle.rma_layout.specs.Shape.{Shape}
 use Rattle.rma_layout.specs.Ranges.{IsInRange}
 use Rattle.object_words.specs.Contents.{Agrees, Contents, overlay, words_at}
+use Rattle.object_words.specs.Entries.{Entry, store_after}
 use Rattle.graph_model.specs.Calls.{graph_after_call, reply_to}
 use Rattle.graph_model.specs.Capacity.{OfVertex, Reserved}
 use Rattle.graph_model.specs.Graph.{Graph, is_vertex}
@@ -13,7 +15,7 @@ use Rattle.graph_model.specs.Transactions.{graph_after_txn}
 use Rattle.holder_codec.specs.Keeping.{keeps_by_steps}
 use Rattle.holder_codec.specs.Knowing.{MayBeAt}
 use Rattle.holder_codec.specs.Represents.{Represents, object_of}
-use Rattle.object_store.specs.Sound.{IsSound}
+use Rattle.object_store.specs.Sound.{IsSound, StaysBegun}
 use Rattle.object_store.specs.State.{StoreState, committed}
 use Rattle.object_store.specs.Works.{Looks}
 use Rattle.graph_law.specs.declared.law.Noted.{Noted}
@@ -77,4 +79,25 @@ module _ {N : Type 0} {call : Call} {reply : Reply} {old new : StoreState N} (lo
     reads = λ store g is agrees place. inr (reads store g is agrees place);
     writes = λ store g is agrees place. inr (inr (ap (λ (c : Contents). words_at c place) looks.writes));
     room = λ most told g is rank makes. absurd (nowhere rank (sym (makes_nothing old.shape g call (same g)) ∙ makes));
+  }
+
+-- ---- a call that leaves the graph as it is
+
+-- what was read agrees with what was committed before, where the store tells its most
+pub agrees_still : {old new : StoreState Noted} → StaysBegun old new → IsSound Fits new → IsSome old.most → Agrees new.reads (committed old)
+agrees_still {old} {new} stays sound told = subst (λ (seen : List (Entry Noted)). Agrees new.reads (store_after seen)) (stays.commits.seen told) sound.agrees
+
+module _ {call : Call} {reply : Reply} {old new : StoreState Noted} (looks : Looks old new) (sound : IsSound Fits new) where
+  -- one that is refused, if only on the stores at which the transaction may be
+  pub left_applied : ((store : Contents) (g : Graph) (is : Represents old.shape (overlay store old.writes) g) → Agrees new.reads store → (graph_after_call old.shape g call ≡ g) × (reply ≡ reply_to old.shape g call))
+      → ((store : Contents) (g : Graph) (is : Represents old.shape (overlay store old.writes) g) → Agrees new.reads store → (place : Place)
+      → IsReached old.shape g call is.vertices is.edges place ⊎ (words_at new.reads place ≡ words_at old.reads place))
+      → AppliesCall call old new reply
+  left_applied left reads = record {
+    did = λ store g is agrees. let same = left store g is agrees in leaves is same.0 same.1 looks.writes;
+    reads = λ store g is agrees place. inr (reads store g is agrees place);
+    writes = λ store g is agrees place. inr (inr (ap (λ (c : Contents). words_at c place) looks.writes));
+    room = λ most told g is rank makes.
+        let same = left (committed old) g is (agrees_still looks.stays sound (ap is_some told)) in
+        absurd (nowhere rank (sym (makes_nothing old.shape g call same.0) ∙ makes));
   }
