@@ -1,1 +1,2 @@
 pub mod NewVertex
+pub mod MakesVertex

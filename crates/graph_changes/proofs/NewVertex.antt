@@ -66,7 +66,7 @@ made_alike p f h (x ∷ xs) all =
     let rest = made_alike p f h xs all.1 in
     elim (p x) as (λ b. map f (cond b (x ∷ filter p xs) (filter p xs)) ≡ map h (cond b (x ∷ filter p xs) (filter p xs))) [ true ↦ λ i. all.0 i ∷ rest i | false ↦ rest ]
 
-found_here : {X : Type 0} (m : Map ℕ X) (k : ℕ) (x : X) → at (with_at m k x) k ≡ Some x
+pub found_here : {X : Type 0} (m : Map ℕ X) (k : ℕ) (x : X) → at (with_at m k x) k ≡ Some x
 found_here m k x = find-put nat_cmp nat_cmp_total k k x m ∙ ap (λ b. cond b (Some x) (at m k)) (let tied : eq_by_cmp nat_cmp k k ≡ true = grind (arith, nat_tests) in tied)
 
 untied : (q k : ℕ) → q ≢ k → eq_by_cmp nat_cmp q k ≡ false

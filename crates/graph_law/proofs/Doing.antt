@@ -118,6 +118,9 @@ made_where_named {Reached = Reached} {Makes = Makes} {old = old} {said = said} r
     of (inr (inl one)) = absurd (object_apart one.0 rank (sym one.1 ∙ named))
     of (inr (inr other)) = subst Makes (same_rank other.0 rank (sym other.1 ∙ named)) other.2
 
--- what makes no object names no rank
+-- what makes no object names no rank, also where it is refused behind other work
+pub refuses_none : {N : Type 0} {call : Call} {first : StoreState N} {Reached : Place → Type 0} {old new : StoreState N} {said : Said} → RefusesReach Reached (λ _. ⊥) old new said → RefusesCall call first said
+refuses_none refused = record { makes = λ _ rank named _ _. absurd (made_where_named refused rank named) }
+
 pub refuses_no_rank : {N : Type 0} {call : Call} {Reached : Place → Type 0} {old new : StoreState N} {said : Said} → RefusesReach Reached (λ _. ⊥) old new said → RefusesCall call old said
-refuses_no_rank refused = record { makes = λ _ rank named _ _. absurd (made_where_named refused rank named) }
+refuses_no_rank refused = refuses_none refused
