@@ -1,0 +1,8 @@
+//! The names and the kinds of a constraint, by the names of a graph.
+#![tactic(auto)]
+
+mod kinds;
+mod known;
+
+pub use kinds::kinds_agree;
+pub use known::names_known;
