@@ -2,10 +2,10 @@ ghost use Rattle.std.specs.Prelude.{◌≡◌, Err, MatchResult, Ok};
 ghost use Rattle.std.specs.List.{list_any};
 ghost use Rattle.gdi_kinds.specs.Constraint.{kind_of, same_kind};
 ghost use Rattle.graph_model.specs.ListCalls.{atoms_of, is_of_wrong_kind, kinds_agree};
-ghost use Rattle.graph_model.specs.Lookups.{type_number};
 ghost use Rattle.constraint_names.specs.Named.{named};
 
-use gdi_kinds::{Atom, AtomList, Kind, Name, Reply, Test, Value};
+use crate::places::place_of_type;
+use gdi_kinds::{Atom, AtomList, Kind, Reply, Test, Value};
 use holder_codec::MetaHolder;
 
 /// That all constants of a constraint are of their types' kinds, or the refusal WrongKind. A name that no type has is
@@ -66,15 +66,4 @@ fn is_of_kind(value: &Value, kind: Kind) -> bool
         Value::Bool(_) => kind == Kind::Bool,
         Value::Text(_) => kind == Kind::Text,
     }
-}
-
-/// Where the type of a name stands among the types, from 0.
-pub(crate) fn place_of_type(names: &MetaHolder, name: &Name) -> Option<usize>
-    ensures { result ≡ type_number (named names.now) name.now }
-{
-    names
-        .types
-        .as_slice()
-        .iter()
-        .position(|line| *name == line.name)
 }

@@ -1,10 +1,9 @@
-ghost use Rattle.std.specs.Prelude.{◌≡◌, [], ◌∷◌, Err, MatchResult, Ok, is_some};
+ghost use Rattle.std.specs.Prelude.{◌≡◌, [], ◌∷◌, Err, MatchResult, Ok};
 ghost use Rattle.graph_model.specs.ListCalls.{atoms_of, names_known};
-ghost use Rattle.graph_model.specs.Lookups.{label_number, type_number};
 ghost use Rattle.constraint_names.specs.Named.{named};
 
-use crate::kinds::place_of_type;
-use gdi_kinds::{Atom, AtomList, Name, Reply, Test};
+use crate::places::{place_of_label, place_of_type};
+use gdi_kinds::{Atom, AtomList, Reply, Test};
 use holder_codec::MetaHolder;
 
 /// That all names of a constraint are known, or the refusal of the first that isn't: NoLabel or NoType.
@@ -40,30 +39,17 @@ fn name_known(names: &MetaHolder, atom: &Atom) -> Result<(), Reply>
         (λ refusal. Err refusal ≡ names_known (named names.now) (atom.now ∷ [])) }
 {
     match atom {
-        Atom::Has(name) | Atom::Lacks(name) => match has_label(names, name) {
-            true => Ok(()),
-            false => Err(Reply::NoLabel),
+        Atom::Has(name) => match place_of_label(names, name) {
+            Some(_) => Ok(()),
+            None => Err(Reply::NoLabel),
         },
-        Atom::Prop(name, _, _) => match has_type(names, name) {
-            true => Ok(()),
-            false => Err(Reply::NoType),
+        Atom::Lacks(name) => match place_of_label(names, name) {
+            Some(_) => Ok(()),
+            None => Err(Reply::NoLabel),
+        },
+        Atom::Prop(name, _, _) => match place_of_type(names, name) {
+            Some(_) => Ok(()),
+            None => Err(Reply::NoType),
         },
     }
-}
-
-fn has_label(names: &MetaHolder, name: &Name) -> bool
-    ensures { result ≡ is_some (label_number (named names.now) name.now) }
-{
-    names
-        .labels
-        .as_slice()
-        .iter()
-        .position(|label| *name == *label)
-        .is_some()
-}
-
-fn has_type(names: &MetaHolder, name: &Name) -> bool
-    ensures { result ≡ is_some (type_number (named names.now) name.now) }
-{
-    place_of_type(names, name).is_some()
 }

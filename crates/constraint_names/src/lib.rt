@@ -3,6 +3,7 @@
 
 mod kinds;
 mod known;
+mod places;
 
 pub use kinds::kinds_agree;
 pub use known::names_known;
