@@ -86,12 +86,9 @@ pub room_next : {shape : Shape} {calls rest : List Call} {call : Call} {store be
     → RoomSoFar shape calls rest store after g most
 room_next {shape} {calls} {rest} {call} {store} {before} {after} {g} {most} some so_far room is made = by_make (make_of shape so_far.now call) refl
   where
-    abbrev then : Graph
-    then = graph_after_call shape so_far.now call
-
     by_make : (make : Option ℕ) → make_of shape so_far.now call ≡ make → RoomSoFar shape calls rest store after g most
     by_make None none = record {
-      now = then;
+      now = graph_after_call shape so_far.now call;
       represents = is;
       earlier = so_far.earlier;
       counts = λ rank within.
@@ -99,12 +96,12 @@ room_next {shape} {calls} {rest} {call} {store} {before} {after} {g} {most} some
           let all = made rank within in
           let old = so_far.counts rank within in
           omega (arith, nothing, all, old);
-      short = so_far.short ∙ ap (λ m. overfull_at_make most so_far.earlier (option_to_list m ++ makes shape then rest)) none;
+      short = so_far.short ∙ ap (λ m. overfull_at_make most so_far.earlier (option_to_list m ++ makes shape (graph_after_call shape so_far.now call) rest)) none;
     }
     by_make (Some one) makes_one =
         let within_one = make_below shape so_far.now call one some makes_one in
         record {
-          now = then;
+          now = graph_after_call shape so_far.now call;
           represents = is;
           earlier = one ∷ so_far.earlier;
           counts = λ rank within.
@@ -113,8 +110,8 @@ room_next {shape} {calls} {rest} {call} {store} {before} {after} {g} {most} some
               let old = so_far.counts rank within in
               let split = count_by-append (λ r. r == rank) (one ∷ []) so_far.earlier in
               omega (arith, made_one, all, old, split);
-          short = so_far.short ∙ (ap (λ m. overfull_at_make most so_far.earlier (option_to_list m ++ makes shape then rest)) makes_one
-              ∙ ap (λ b. cond b (overfull_at_make most (one ∷ so_far.earlier) (makes shape then rest)) (Some one))
+          short = so_far.short ∙ (ap (λ m. overfull_at_make most so_far.earlier (option_to_list m ++ makes shape (graph_after_call shape so_far.now call) rest)) makes_one
+              ∙ ap (λ b. cond b (overfull_at_make most (one ∷ so_far.earlier) (makes shape (graph_after_call shape so_far.now call) rest)) (Some one))
               (is_below (count_of so_far.earlier one) (most one) (subst (λ (n : ℕ). n < most one) (sym (so_far.counts one within_one)) (room one makes_one))));
         }
 

@@ -56,7 +56,7 @@ pub and_false : (b : Bool) → (b && false) ≡ false
 and_false true = refl
 and_false false = refl
 
-none_made : (shape : Shape) (store : Contents) (rank : ℕ) → made_objects shape store [] rank ≡ 0
+pub none_made : (shape : Shape) (store : Contents) (rank : ℕ) → made_objects shape store [] rank ≡ 0
 none_made shape store rank = total_zero shape.blocks _ (λ block. one_false (is_reserved shape block) (is_empty (content_of store (on_rank rank block))))
   where
     one_false : (r e : Bool) → one_if (cond r false true && e && false) ≡ 0
