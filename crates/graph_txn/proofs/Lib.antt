@@ -4,3 +4,4 @@ pub mod Room
 pub mod Through
 pub mod Going
 pub mod Ending
+pub mod Anew
