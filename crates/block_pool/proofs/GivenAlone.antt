@@ -19,7 +19,7 @@ module _ {N : Type 0} (shape : Shape) (block : Place) (head : ℕ) (before one :
   refused_alone last = record {
     idle = refl;
     unworn = λ is bound known. last_tag shape block.rank head before one told alone last bound known;
-    raises = load_raises shape block.rank head before one told alone one refl;
+    raises = load_raises shape block.rank head before one told alone 1 one refl;
   }
 
   pub made_alone : (next : ℕ) (two three : View N) → two ≡ linked block next one

@@ -23,8 +23,9 @@ module _ {N : Type 0} (shape : Shape) (home head : ℕ) (before one : View N)
   bounds_are = ap (λ (v : View N). v.bounds) told.view
 
   -- the head was loaded
-  pub load_raises : (after : View N) → after.bounds ≡ one.bounds → Raises home 1 before after
-  load_raises after same =
+  pub load_raises : (count : ℕ) (after : View N) → after.bounds ≡ one.bounds
+      → Raises home count before after
+  load_raises count after same =
       let is = same ∙ bounds_are in record {
         here = λ bound known. (
           tag_of head,
@@ -60,7 +61,7 @@ module _ {N : Type 0} (shape : Shape) (home head : ℕ) (before one : View N)
     idle = refl;
     counts = λ none clean. tt;
     unworn = λ is bound known. last_tag last bound known;
-    raises = load_raises one refl;
+    raises = load_raises 0 one refl;
   }
 
   pub empty_alone : first_of head ≡ 0 → TakesAlone shape home 0 before one (Err (Empty head))
@@ -72,7 +73,7 @@ module _ {N : Type 0} (shape : Shape) (home head : ℕ) (before one : View N)
       ap length (no_first shape home told.list told.free (sym told.first ∙ none)),
     );
     unworn = λ is. cc is;
-    raises = load_raises one refl;
+    raises = load_raises 0 one refl;
   }
 
   pub taken_alone : first_of head ≢ 0 → (block : Place) (after : View N)

@@ -52,6 +52,11 @@ is_worn (Err (Empty head)) = false
 is_worn (Err (PoolBusy loaded seen)) = false
 is_worn (Err (Worn head)) = true
 
+-- how many exchanges a view that is alone made
+abbrev pub exchanges : Result Place PoolRefused → ℕ
+exchanges (Ok block) = 1
+exchanges (Err refused) = 0
+
 -- what a view that is alone knows of taking a block of a home rank, of which this is the first spare
 pub record TakesAlone {N : Type 0} (shape : Shape) (home spare : ℕ) (before after : View N)
     (answer : Result Place PoolRefused) : Type 0 where
@@ -62,7 +67,7 @@ pub record TakesAlone {N : Type 0} (shape : Shape) (home spare : ℕ) (before af
   -- the head has the last tag only where no lower bound was known
   pub unworn : is_worn answer ≡ true → (bound : ℕ) → bound_of before.bounds home ≡ Some bound
       → 2 ^ 44 - 1 ≤ bound
-  pub raises : Raises home 1 before after
+  pub raises : Raises home (exchanges answer) before after
 
 abbrev pub is_missed : Push → Bool
 is_missed Made = false

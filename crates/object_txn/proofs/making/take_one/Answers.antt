@@ -44,7 +44,7 @@ returns-in-Err-Empty-clause-refused g c =
 pub returns-in-Err-PoolBusy-clause-refused : goal.returns-in-Err-PoolBusy-clause-refused
 returns-in-Err-PoolBusy-clause-refused g c =
     explains_busy c.args.window.now.shape c.args.home c.args.rank.now.view c.take.new.rank.view c.in-Err-PoolBusy.loaded c.in-Err-PoolBusy.seen
-    (λ alone. never_busy c.take.result _ c.in-Err-PoolBusy.loaded c.in-Err-PoolBusy.seen c.in-Err-PoolBusy.is c.in-Err-PoolBusy.field-0-is (c.take.ensures.alone alone))
+    (λ alone. never_busy c.take.result _ c.in-Err-PoolBusy.loaded c.in-Err-PoolBusy.seen c.in-Err-PoolBusy.is c.in-Err-PoolBusy.field-0-is (c.take.ensures.alone alone).idle)
     (subst (Refuses c.args.home 64 c.args.rank.now.view c.take.new.rank.view) c.in-Err-PoolBusy.field-0-is c.in-Err-PoolBusy.ensures.taken.why)
 
 pub returns-in-Err-Worn-clause-refused : goal.returns-in-Err-Worn-clause-refused
