@@ -2,7 +2,7 @@ use Rattle.std.proofs.Common.{◌≡◌, ◌+◌, ◌++◌, ◌∷◌, [], ℕ, 
 use Rattle.std.proofs.lemmas.List.{length-append}
 use Rattle.traversals.specs.Rows.{AreEnds, rows_from}
 use Rattle.traversals.proofs.Rows.{ends-more, row-more}
-use Rattle.traversals.proofs.flat_rows.FlatRows.with.Goals as goal
+use Rattle.traversals.proofs.flat_rows.FlatRows+u32.with.Goals as goal
 
 pub invariant_of-result : goal.invariant_of-result
 invariant_of-result c =
