@@ -1,5 +1,7 @@
+pub mod Rows
 pub mod Steps
 pub mod Telling
-pub mod Rows
-pub mod ByLabel
+pub mod Atoms
+pub mod Passing
+pub mod Finding
 pub mod Scanning

@@ -1,21 +1,21 @@
--- The number of a label, and what a scan by it finds.
-use Rattle.std.proofs.Common.{◌≡◌, ℕ, suc, ◌+◌, ◌<◌, Bool, true, false, not, cond, List, [], ◌∷◌, length, Some, None, if◌then◌else◌, nat_lt, refl, sym, ap, subst, ◌∙◌, arith}
+-- The place of a name, and what a scan answers, refusal by refusal.
+use Rattle.std.proofs.Common.{◌≡◌, ℕ, suc, ◌+◌, Bool, true, false, not, cond, List, [], ◌∷◌, length, Option, Some, None, Ok, Err, if◌then◌else◌, nat_lt, refl, sym, ap, ◌∙◌, arith}
 use Rattle.std.specs.Option.{option_map}
-use Rattle.std.specs.Str.{bytes_eq}
-use Rattle.std.specs.List.{filter, position, position_or_len, prefix_len}
-use Rattle.std.proofs.lemmas.Bool.{ltb-true}
+use Rattle.std.specs.List.{position, prefix_len}
 use Rattle.std.proofs.lemmas.Bool.Decides.{nat_tests}
+use Rattle.gdi_kinds.specs.declared.constraint.Atom.{Atom}
 use Rattle.gdi_kinds.specs.declared.call.Call.TheVariants as call
+use Rattle.gdi_kinds.specs.declared.reply.Reply.{Reply}
 use Rattle.gdi_kinds.specs.declared.reply.Reply.TheVariants as reply
-use Rattle.graph_model.specs.Maps.{Map, keys, place_where}
-use Rattle.graph_model.specs.Graph.{Name, Graph, Vertex}
+use Rattle.graph_model.specs.Maps.{place_where}
+use Rattle.graph_model.specs.Graph.{Name, Graph}
 use Rattle.graph_model.specs.Calls.{answer_to}
 use Rattle.graph_model.specs.Steps.{Answer}
-use Rattle.graph_model.specs.Lookups.{label_number}
-use Rattle.graph_model.specs.ListCalls.{vertices_where}
-use Rattle.graph_model.proofs.Entries.{same_value, nothing}
+use Rattle.graph_model.specs.EdgeCalls.{label_if_named}
+use Rattle.graph_model.specs.ListCalls.{atoms_of, names_known, kinds_agree, vertices_where}
 use Rattle.traversals.specs.Outline.{Outline, IsOf}
 use Rattle.traversals.specs.Questions.{Tells}
+use Rattle.traversals.proofs.Passing.{same-label, same-names, same-kinds}
 
 module _ {X : Type 0} (p : X → Bool) where
   pub position-place_where : (xs : List X) → position p xs ≡ place_where p xs
@@ -31,34 +31,44 @@ module _ {X : Type 0} (p : X → Bool) where
             ∙ ap (option_map suc) (position-place_where xs)
       ]
 
-  passed : (test : Bool) (m n len : ℕ) → nat_lt m len ≡ test → cond test (Some m) None ≡ Some n → n < len
-  passed true m n len is some = subst (λ k. k < len) (same_value m n some) (ltb-true m len is)
-  passed false m n len is some = nothing n some
-
-  pub position-below : (xs : List X) (n : ℕ) → position p xs ≡ Some n → n < length xs
-  position-below xs n is = passed (nat_lt (position_or_len p xs) (length xs)) (position_or_len p xs) n (length xs) refl is
-
-every : (vs : Map ℕ Vertex) → keys vs ≡ keys (filter (λ entry. true) vs)
-every [] = refl
-every (v ∷ vs) = ap (λ ks. v.0 ∷ ks) (every vs)
-
-pub scan-all : (outline : Outline) (ids : List ℕ) → ids ≡ outline.ids → Tells outline (call.Scan None None) (reply.Ids ids)
-scan-all outline ids told = λ shape g well is. ap (λ (js : List ℕ). reply.Ids js) (told ∙ is.ids ∙ every g.vertices)
-
-module _ (outline : Outline) (name : Name) where
-  number-is : (g : Graph) → IsOf g outline → label_number g name ≡ place_where (bytes_eq name) outline.names
-  number-is g is = sym (ap (place_where (bytes_eq name)) is.names)
-
-  pub scan-no_label : None ≡ place_where (bytes_eq name) outline.names → Tells outline (call.Scan (Some name) None) reply.NoLabel
-  scan-no_label absent = λ shape g well is.
-      let none : label_number g name ≡ None = number-is g is ∙ sym absent in
-      let whole : answer_to shape g (call.Scan (Some name) None) ≡ (record { graph = g; reply = reply.NoLabel }) = rw none in
+module _ (outline : Outline) (name : Option Name) (test : Option (List (List Atom))) where
+  pub scan-label : (r : Reply) → Err r ≡ label_if_named outline.names name → Tells outline (call.Scan name test) r
+  scan-label r absent = λ shape g well is.
+      let there = absent ∙ ap (λ (names : Graph). label_if_named names name) is.names ∙ same-label g name in
+      let whole : answer_to shape g (call.Scan name test) ≡ (record { graph = g; reply = r }) = rw (← there) refl in
       sym (ap (λ (a : Answer). a.reply) whole)
 
-  pub scan-done : (number : ℕ) (ids : List ℕ) → Some number ≡ place_where (bytes_eq name) outline.names → ((g : Graph) → IsOf g outline → ids ≡ vertices_where g (number ∷ []) None)
-      → Tells outline (call.Scan (Some name) None) (reply.Ids ids)
-  scan-done number ids there told = λ shape g well is.
-      let some : label_number g name ≡ Some number = number-is g is ∙ sym there in
-      let whole : answer_to shape g (call.Scan (Some name) None) ≡ (record { graph = g; reply = reply.Ids ids }) =
-      rw some (ap (λ (js : List ℕ). record { graph = g; reply = reply.Ids js }) (sym (told g is))) in
-      sym (ap (λ (a : Answer). a.reply) whole)
+  module _ (labels : List ℕ) (there : Ok labels ≡ label_if_named outline.names name) where
+    label-is : (g : Graph) → IsOf g outline → Ok labels ≡ label_if_named g name
+    label-is g is = there ∙ ap (λ (names : Graph). label_if_named names name) is.names ∙ same-label g name
+
+    names-are : (g : Graph) → IsOf g outline → names_known outline.names (atoms_of test) ≡ names_known g (atoms_of test)
+    names-are g is = ap (λ (names : Graph). names_known names (atoms_of test)) is.names ∙ same-names g (atoms_of test)
+
+    kinds-are : (g : Graph) → IsOf g outline → kinds_agree outline.names (atoms_of test) ≡ kinds_agree g (atoms_of test)
+    kinds-are g is = ap (λ (names : Graph). kinds_agree names (atoms_of test)) is.names ∙ same-kinds g (atoms_of test)
+
+    pub scan-names : (r : Reply) → Err r ≡ names_known outline.names (atoms_of test) → Tells outline (call.Scan name test) r
+    scan-names r unknown = λ shape g well is.
+        let label = label-is g is in
+        let names = unknown ∙ names-are g is in
+        let whole : answer_to shape g (call.Scan name test) ≡ (record { graph = g; reply = r }) = rw (← label, ← names) refl in
+        sym (ap (λ (a : Answer). a.reply) whole)
+
+    pub scan-kinds : (r : Reply) → Ok tt ≡ names_known outline.names (atoms_of test) → Err r ≡ kinds_agree outline.names (atoms_of test) → Tells outline (call.Scan name test) r
+    scan-kinds r known wrong = λ shape g well is.
+        let label = label-is g is in
+        let names = known ∙ names-are g is in
+        let kinds = wrong ∙ kinds-are g is in
+        let whole : answer_to shape g (call.Scan name test) ≡ (record { graph = g; reply = r }) = rw (← label, ← names, ← kinds) refl in
+        sym (ap (λ (a : Answer). a.reply) whole)
+
+    pub scan-done : (ids : List ℕ) → Ok tt ≡ names_known outline.names (atoms_of test) → Ok tt ≡ kinds_agree outline.names (atoms_of test)
+        → ((g : Graph) → IsOf g outline → ids ≡ vertices_where g labels test) → Tells outline (call.Scan name test) (reply.Ids ids)
+    scan-done ids known agree told = λ shape g well is.
+        let label = label-is g is in
+        let names = known ∙ names-are g is in
+        let kinds = agree ∙ kinds-are g is in
+        let whole : answer_to shape g (call.Scan name test) ≡ (record { graph = g; reply = reply.Ids ids }) =
+        rw (← label, ← names, ← kinds) (ap (λ (js : List ℕ). record { graph = g; reply = reply.Ids js }) (sym (told g is))) in
+        sym (ap (λ (a : Answer). a.reply) whole)

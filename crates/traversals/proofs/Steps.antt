@@ -11,7 +11,7 @@ use Rattle.graph_walks.specs.Steps.{leads, IsTwoWay}
 use Rattle.graph_walks.proofs.Bools.{same_tests}
 use Rattle.traversals.specs.declared.flat_edge.FlatEdge.{FlatEdge}
 use Rattle.traversals.specs.Edges.{line_of, steps_by, both_by}
-use Rattle.traversals.specs.Outline.{AreSameSteps, IsOf, Outline, labels_of}
+use Rattle.traversals.specs.Outline.{AreSameSteps, IsOf, Outline, labels_of, names_in, props_of}
 
 -- ---- the same steps, the same walks
 
@@ -78,12 +78,13 @@ joining-back edges steps same = λ i t step. same t i ∙ two-way edges t i ∙ 
 
 -- ---- the outline of a graph's lists
 
-pub outlines : (g : Graph) (ids : List ℕ) (edges : List FlatEdge) (outline : Outline) → outline.names ≡ g.labels → ids ≡ keys g.vertices → outline.labels ≡ labels_of g.vertices → edges ≡ map line_of g.edges
+pub outlines : (g : Graph) (ids : List ℕ) (edges : List FlatEdge) (outline : Outline) → outline.names ≡ names_in g → ids ≡ keys g.vertices → outline.labels ≡ labels_of g.vertices → outline.props ≡ props_of g.vertices → edges ≡ map line_of g.edges
     → outline.ids ≡ ids → AreSameSteps outline.steps (flat_map steps_by edges) → AreSameSteps outline.joining (flat_map both_by edges) → outline.arcs ≡ length edges → IsOf g outline
-outlines g ids edges outline names vertices labels lines same_ids steps joining arcs = record {
+outlines g ids edges outline names vertices labels props lines same_ids steps joining arcs = record {
   names = names;
   ids = same_ids ∙ vertices;
   labels = labels;
+  props = props;
   steps = λ i t. steps i t ∙ ap (λ (es : List FlatEdge). leads (flat_map steps_by es) i t) lines ∙ ap (λ (ss : List (ℕ × ℕ)). leads ss i t) (steps_of_lines g.edges);
   joining = λ i t. joining i t ∙ ap (λ (es : List FlatEdge). leads (flat_map both_by es) i t) lines ∙ joining_of_lines g.edges i t;
   arcs = arcs ∙ ap length lines ∙ length-map g.edges line_of;

@@ -1,4 +1,6 @@
-pub mod Outline
 pub mod Edges
-pub mod Questions
 pub mod Rows
+pub mod Props
+pub mod Outline
+pub mod Found
+pub mod Questions

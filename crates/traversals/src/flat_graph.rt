@@ -1,68 +1,68 @@
-ghost use Rattle.std.specs.Prelude.{◌≡◌, ◌<◌, ◌^◌, length, map, IfOk};
+ghost use Rattle.std.specs.Prelude.{◌≡◌, length, map, IfOk};
 ghost use Rattle.std.specs.List.{AllByRecursion, flat_map};
 ghost use Rattle.graph_model.specs.Graph.{Graph};
 ghost use Rattle.graph_model.specs.Maps.{IsSet, keys};
 ghost use Rattle.graph_walks.specs.Steps.{IsTwoWay, steps_of};
 ghost use Rattle.traversals.specs.Edges.{IsBetween, both_by, line_of, steps_by};
-ghost use Rattle.traversals.specs.Outline.{AreSameSteps, IsOf, labels_of};
+ghost use Rattle.traversals.specs.Outline.{AreSameSteps, IsOf, labels_of, names_in, props_of};
 
 use crate::gathering::{joining_along, steps_along};
-use crate::{FlatEdge, LabelRows};
-use gdi_kinds::{Duplicate, NameList, NoMemory, NumList};
+use crate::{FlatEdge, FlatNames, LabelRows, PropRows};
+use gdi_kinds::{Duplicate, NoMemory, NumList};
 use graph_walks::{FlatSteps, Places};
 use std::alloc::Global;
 use std::marker::Model;
 
-/// A graph as plain arrays, as far as walks and counts ask of it. It is made once, and doesn't change.
+/// A graph as plain arrays, as far as questions to the whole of it ask. It is made once, and doesn't change.
 #[derive(Debug, Drop)]
 pub struct FlatGraph {
     // The steps along the edges.
     steps: FlatSteps,
     // Those with directions ignored.
     joining: FlatSteps,
-    // Of all labels, by number.
-    names: NameList,
+    names: FlatNames,
     // Of the vertices by place, which both steps have.
     labels: LabelRows,
+    props: PropRows,
     edges: usize,
 }
 
 impl Model for FlatGraph {
-    ghost use Rattle.std.specs.Prelude.{◌≡◌, ◌<◌, ◌^◌, length};
+    ghost use Rattle.std.specs.Prelude.{◌≡◌, length};
     ghost use Rattle.graph_walks.specs.Steps.{IsTwoWay, steps_of};
     ghost use Rattle.traversals.specs.Outline.{Outline};
 
     ghost Value = { Outline };
 
-    ghost view = { λ flat. record { names = flat.names; ids = flat.steps.ids; labels = flat.labels; steps = steps_of flat.steps; joining = steps_of flat.joining; arcs = flat.edges } };
+    ghost view = { λ flat. record { names = flat.names; ids = flat.steps.ids; labels = flat.labels; props = flat.props; steps = steps_of flat.steps; joining = steps_of flat.joining; arcs = flat.edges } };
 
-    ghost invariant = { λ flat. (flat.joining.ids ≡ flat.steps.ids) × IsTwoWay (steps_of flat.joining) × (length flat.labels ≡ length flat.steps.ids) × (length flat.names < 2 ^ 32) };
+    ghost invariant = { λ flat. (flat.joining.ids ≡ flat.steps.ids) × IsTwoWay (steps_of flat.joining) × (length flat.labels ≡ length flat.steps.ids) × (length flat.props ≡ length flat.steps.ids) };
 }
 
 impl FlatGraph {
-    /// The graph of these vertices, whose identifiers rise, each with its row of labels, and of these edges between them,
-    /// in any order. The labels have these names, by number; 2^32 of them are too many for the memory that is kept.
+    /// The graph of these names, of these vertices, whose identifiers rise, each with its labels and its properties, and of
+    /// these edges between them, in any order.
     pub fn gather(
         alloc: Global,
-        names: NameList,
+        names: FlatNames,
         ids: NumList,
         labels: LabelRows,
+        props: PropRows,
         edges: &[FlatEdge],
     ) -> Result<FlatGraph, NoMemory>
         requires rise { IsSet ids }
         requires labels { length labels ≡ length ids }
+        requires props { length props ≡ length ids }
         requires ends { AllByRecursion (IsBetween ids) edges.now }
         ensures names { IfOk result (λ flat. flat.names ≡ names) }
         ensures ids { IfOk result (λ flat. flat.ids ≡ ids) }
         ensures labels { IfOk result (λ flat. flat.labels ≡ labels) }
+        ensures props { IfOk result (λ flat. flat.props ≡ props) }
         ensures steps { IfOk result (λ flat. AreSameSteps flat.steps (flat_map steps_by edges.now)) }
         ensures joining { IfOk result (λ flat. AreSameSteps flat.joining (flat_map both_by edges.now)) }
         ensures arcs { IfOk result (λ flat. flat.arcs ≡ length edges.now) }
-        ensures graph { IfOk result (λ flat. (g : Graph) → names ≡ g.labels → ids ≡ keys g.vertices → labels ≡ labels_of g.vertices → edges.now ≡ map line_of g.edges → IsOf g flat) }
+        ensures graph { IfOk result (λ flat. (g : Graph) → names ≡ names_in g → ids ≡ keys g.vertices → labels ≡ labels_of g.vertices → props ≡ props_of g.vertices → edges.now ≡ map line_of g.edges → IsOf g flat) }
     {
-        if names.len() >= 4294967296 {
-            return Err(NoMemory);
-        }
         let copied = ids.copy(alloc)?;
         let steps = steps_along(alloc, Places::new(alloc, copied)?, edges)?;
         let joining = joining_along(alloc, Places::new(alloc, ids)?, edges)?;
@@ -71,6 +71,7 @@ impl FlatGraph {
             joining,
             names,
             labels,
+            props,
             edges: edges.len(),
         })
     }
@@ -89,10 +90,9 @@ impl FlatGraph {
         self.edges
     }
 
-    /// The names of the labels, by number.
-    pub(crate) fn names(&self) -> &NameList
-        ensures value { result.now ≡ self.now.names }
-        ensures few { length result.now < 2 ^ 32 }
+    /// The labels and property types.
+    pub fn names(&self) -> &FlatNames
+        ensures { result.now ≡ self.now.names }
     {
         &self.names
     }
@@ -103,6 +103,14 @@ impl FlatGraph {
         ensures len { length result.now ≡ length self.now.ids }
     {
         &self.labels
+    }
+
+    /// The properties by place.
+    pub(crate) fn props(&self) -> &PropRows
+        ensures value { result.now ≡ self.now.props }
+        ensures len { length result.now ≡ length self.now.ids }
+    {
+        &self.props
     }
 
     /// The steps along the edges.

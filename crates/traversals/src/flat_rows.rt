@@ -1,6 +1,7 @@
 ghost use Rattle.std.specs.Prelude.{◌≡◌, ◌<◌, ◌≤◌, ◌++◌, ◌∷◌, [], Some, length, slice_get, slice_range, IfOk};
 ghost use Rattle.traversals.specs.Rows.{start_from};
 
+use crate::FlatProp;
 use gdi_kinds::NoMemory;
 use std::alloc::Global;
 use std::marker::Model;
@@ -15,6 +16,9 @@ pub struct FlatRows<T> {
 
 /// The labels of vertices by place, as the numbers of the labels.
 pub type LabelRows = FlatRows<u32>;
+
+/// The properties of vertices by place: each value by itself, by the types' numbers and then in order.
+pub type PropRows = FlatRows<FlatProp>;
 
 impl<T> Model for FlatRows<T> {
     ghost use Rattle.std.specs.Prelude.{List, length};

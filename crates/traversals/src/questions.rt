@@ -10,7 +10,7 @@ use std::alloc::Global;
 
 // What is asked of the whole graph. None of it changes the graph.
 impl FlatGraph {
-    /// The reply to a call on the whole graph. There is none to a scan by a constraint, nor to a call that isn't on the whole graph.
+    /// The reply to a call on the whole graph. There is none to a call that isn't on the whole graph.
     pub fn answer(&self, alloc: Global, call: &Call) -> Result<Option<Reply>, NoMemory>
         ensures some { IfOk result (λ reply. is_some reply ≡ is_question call.now) }
         ensures reply { IfOk result (λ reply. MatchOption reply (is_question call.now ≡ false) (Tells self.now call.now)) }
@@ -19,7 +19,7 @@ impl FlatGraph {
             Call::Hood { id, depth } => self.hood(alloc, *id, *depth)?,
             Call::Levels { id } => self.levels(alloc, *id)?,
             Call::Parts => self.parts(alloc)?,
-            Call::Scan { label, test } => return self.scan_if_free(alloc, label, test),
+            Call::Scan { label, test } => self.scan(alloc, label, test)?,
             Call::Vertices => Reply::Count(self.vertices() as u64),
             Call::Arcs => Reply::Count(self.arcs() as u64),
             _ => return Ok(None),
