@@ -1,12 +1,16 @@
 -- The objects that steps touch, seen on the graph that they are taken on.
-use Rattle.std.specs.Prelude.{◌≡◌, ◌<◌, Bool, false, ◌&&◌, List, map}
+use Rattle.std.specs.Prelude.{◌≡◌, ℕ, ◌<◌, Bool, false, ◌&&◌, List, map}
 use Rattle.std.specs.List.{AllByRecursion, list_all}
 use Rattle.rma_layout.specs.Shape.{Shape}
 use Rattle.graph_model.specs.Graph.{Graph}
+use Rattle.gdi_kinds.specs.declared.call.Call.{Call}
+use Rattle.graph_model.specs.Transactions.{graph_after_calls}
+use Rattle.graph_model.specs.Capacity as capacity
 use Rattle.graph_model.specs.Capacity.{is_object}
 use Rattle.graph_undo.specs.Undo.{Undo}
 use Rattle.touched_objects.specs.Touched.{Spot, is_touched}
 use Rattle.touched_objects.specs.Weights.{AreApart}
+use Rattle.touched_objects.specs.Needed.{AreSound, noted_along}
 use Rattle.touched_objects.specs.FromSteps.{touched_by_each, had}
 use Rattle.map_graph.specs.declared.object_name.ObjectName.{ObjectName}
 use Rattle.map_graph.specs.Named.{object_of, rank_in}
@@ -38,3 +42,9 @@ pub record AreSeen (shape : Shape) (g : Graph) (steps : List Undo) (growths : Li
   pub apart : AreApart (map (spot_of shape) growths)
   pub cover : (spot : Spot) → is_touched (map (spot_of shape) growths) spot ≡ false → is_touched (touched_by_each shape steps g) spot ≡ false
   pub each : AllByRecursion (IsSeen shape g steps) growths
+
+-- what calls did: the makes in order, and each object that they touched once, as they left it
+pub record Shows (shape : Shape) (g : Graph) (calls : List Call) (makes : List ℕ) (growths : List Growth) : Type 0 where
+  pub sound : AreSound shape g calls
+  pub makes : makes ≡ capacity.makes shape g calls
+  pub seen : AreSeen shape (graph_after_calls shape g calls) (noted_along shape g calls) growths

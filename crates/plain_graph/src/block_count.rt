@@ -101,8 +101,8 @@ fn rank_to_make_on(geometry: &Geometry, call: &Call) -> Option<u16>
     }
 }
 
-// Whether no rank has fewer blocks than these two take together.
-fn fit(taken: &Rooms, more: &Rooms, geometry: &Geometry) -> bool
+/// Whether no rank has fewer blocks than these two take together.
+pub(crate) fn fit(taken: &Rooms, more: &Rooms, geometry: &Geometry) -> bool
     ensures { result ≡ true → (rank : ℕ) → rank < geometry.now.ranks → taken_on taken.now rank + taken_on more.now rank ≤ geometry.now.blocks }
 {
     let blocks = geometry.blocks();

@@ -1,4 +1,4 @@
-ghost use Rattle.std.specs.Prelude.{◌≡◌, ◌+◌, ◌-◌, ◌<◌, ℕ, List, [], None, IfOk, OnOk, nat_lt, find};
+ghost use Rattle.std.specs.Prelude.{◌≡◌, ◌+◌, ◌-◌, ◌<◌, ◌≤◌, ℕ, List, [], None, IfOk, IfSome, OnOk, nat_lt, find};
 ghost use Rattle.std.specs.List.{AllByRecursion, range_with_len};
 ghost use Rattle.std.specs.Option.{option_or};
 ghost use Rattle.gdi_kinds.specs.declared.call.Call.{Call as OneCall};
@@ -6,8 +6,9 @@ ghost use Rattle.graph_model.specs.Graph.{Graph};
 ghost use Rattle.graph_model.specs.Capacity.{makes, short_at_make, short_at_commit};
 ghost use Rattle.plain_graph.specs.Rooms.{taken_on};
 ghost use Rattle.plain_graph.specs.Trials.{Tells};
-ghost use Rattle.plain_graph.specs.Used.{AreUsed, HaveRanks, amount_on, growth_blocks, times};
+ghost use Rattle.plain_graph.specs.Used.{AreUsed, HaveRanks, amount_on, growth_blocks, most_blocks, times};
 
+use crate::block_count::fit;
 use crate::growth::Growth;
 use crate::rooms::Rooms;
 use crate::trial::Trial;
@@ -32,6 +33,59 @@ pub(crate) fn short_rank(
     }
     grow_each(&mut taken, geometry, trial.touched.as_slice())?;
     Ok(first_short(&taken, geometry))
+}
+
+/// The blocks that are in use at the most once calls are done that make these objects and touch those, where each rank surely
+/// has room for the calls; and none where one may have too few. There may be room all the same: what an object had before
+/// isn't looked at.
+pub(crate) fn surely_fits(
+    used: &Rooms,
+    geometry: &Geometry,
+    makes: &[u16],
+    touched: &[Growth],
+) -> Result<Option<Rooms>, NoMemory>
+    requires makes { AllByRecursion (λ rank. rank < geometry.now.ranks) makes.now }
+    requires touched { HaveRanks geometry.now touched.now }
+    ensures raised { IfOk result (λ fitting. IfSome fitting (λ most. (rank : ℕ) → taken_on most rank ≡ taken_on used.now rank + amount_on rank most_blocks touched.now)) }
+    ensures room { IfOk result (λ fitting. IfSome fitting (λ most. (rank : ℕ) → rank < geometry.now.ranks → taken_on most rank + times rank makes.now ≤ geometry.now.blocks)) }
+{
+    let most = raised(used, geometry, touched)?;
+    let mut made = Rooms::all(0);
+    take_each(&mut made, geometry, makes)?;
+    if fit(&most, &made, geometry) {
+        Ok(Some(most))
+    } else {
+        Ok(None)
+    }
+}
+
+/// The blocks that are in use at the most once calls are done that touch these objects.
+pub(crate) fn raised(
+    used: &Rooms,
+    geometry: &Geometry,
+    touched: &[Growth],
+) -> Result<Rooms, NoMemory>
+    requires { HaveRanks geometry.now touched.now }
+    ensures { IfOk result (λ most. (rank : ℕ) → taken_on most rank ≡ taken_on used.now rank + amount_on rank most_blocks touched.now) }
+{
+    geometry.keeps_ranges();
+    let mut most = *used;
+    for growth in touched {
+        most.take(growth.rank, growth.most())?;
+    }
+    Ok(most)
+}
+
+// Takes a block on each of these ranks.
+fn take_each(taken: &mut Rooms, geometry: &Geometry, makes: &[u16]) -> Result<(), NoMemory>
+    requires { AllByRecursion (λ rank. rank < geometry.now.ranks) makes.now }
+    ensures { OnOk result ((rank : ℕ) → taken_on taken.new rank ≡ taken_on taken.old rank + times rank makes.now) }
+{
+    geometry.keeps_ranges();
+    for rank in makes {
+        taken.take(*rank, 1)?;
+    }
+    Ok(())
 }
 
 // Takes a block for each object that is made, and tells the rank of the first for which none is left.

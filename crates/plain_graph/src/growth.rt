@@ -1,5 +1,5 @@
 ghost use Rattle.std.specs.Prelude.{◌≡◌};
-ghost use Rattle.plain_graph.specs.Used.{growth_blocks};
+ghost use Rattle.plain_graph.specs.Used.{growth_blocks, most_blocks};
 
 use map_graph::ObjectName;
 
@@ -23,6 +23,17 @@ impl Growth {
             self.after.saturating_sub(self.before)
         } else {
             self.after.saturating_sub(1)
+        }
+    }
+
+    /// How many blocks more it has than before, at the most, whatever it had before: one that stayed had a first.
+    pub(crate) fn most(&self) -> u64
+        ensures { result ≡ most_blocks self.now }
+    {
+        if self.stayed {
+            self.after.saturating_sub(1)
+        } else {
+            self.after
         }
     }
 }

@@ -10,6 +10,7 @@ mod growth;
 mod plain_graph;
 mod rooms;
 mod trial;
+mod usage;
 
 pub use block_count::BlockCount;
 pub use counting::count_blocks;

@@ -8,6 +8,7 @@ ghost use Rattle.plain_graph.specs.Ending.{ended_of};
 
 use crate::execution::{execute_on, full_on, run_on};
 use crate::rooms::Rooms;
+use crate::usage::Usage;
 use crate::{BlockCount, Ended};
 use gdi_kinds::{ReplyList, Txn};
 use map_graph::{MapGraph, ModelRefused};
@@ -15,7 +16,8 @@ use rma_layout::Geometry;
 use std::alloc::Global;
 use std::marker::Model;
 
-/// A graph in memory, worked on by one caller alone, that knows which blocks its objects would use.
+/// A graph in memory, worked on by one caller alone, that knows how many blocks its objects would use at the most, and counts
+/// them where that decides.
 ///
 /// After `NoMemory` it is only to be dropped.
 #[derive(Debug, Drop)]
@@ -23,8 +25,7 @@ pub struct PlainGraph {
     alloc: Global,
     geometry: Geometry,
     map: MapGraph,
-    // The blocks in use on each rank.
-    used: Rooms,
+    usage: Usage,
     // Whether a transaction has begun and not ended.
     torn: bool,
 }
@@ -35,11 +36,11 @@ impl Model for PlainGraph {
     ghost Value = { Plain };
 
     ghost use Rattle.std.specs.Prelude.{◌≡◌, false};
-    ghost use Rattle.plain_graph.specs.Used.{IsKept};
+    ghost use Rattle.plain_graph.specs.Used.{IsWithin};
 
     ghost view = { λ plain. plain.map };
 
-    ghost invariant = { λ plain. (plain.geometry ≡ plain.map.shape) × (plain.torn ≡ false → IsKept plain.map plain.used) };
+    ghost invariant = { λ plain. (plain.geometry ≡ plain.map.shape) × (plain.torn ≡ false → IsWithin plain.map plain.usage) };
 }
 
 impl PlainGraph {
@@ -54,7 +55,7 @@ impl PlainGraph {
             alloc,
             geometry,
             map: MapGraph::new(alloc, geometry),
-            used: Rooms::all(reserved),
+            usage: Usage::exactly(Rooms::all(reserved)),
             torn: false,
         }
     }
@@ -70,7 +71,7 @@ impl PlainGraph {
             alloc,
             geometry,
             map,
-            used: count.used,
+            usage: Usage::exactly(count.used),
             torn: false,
         }
     }
@@ -88,7 +89,7 @@ impl PlainGraph {
         self.torn = true;
         let replies = run_on(
             &mut self.map,
-            &mut self.used,
+            &mut self.usage,
             self.alloc,
             &self.geometry,
             txn,
@@ -110,7 +111,7 @@ impl PlainGraph {
         self.torn = true;
         let ended = execute_on(
             &mut self.map,
-            &mut self.used,
+            &mut self.usage,
             self.alloc,
             &self.geometry,
             txn,
@@ -120,7 +121,8 @@ impl PlainGraph {
     }
 
     /// The rank that has too few blocks for a transaction, if one has; none for one that aborts or doesn't write. The graph
-    /// stays. It costs what the transaction touches.
+    /// stays. It costs what the transaction touches, and a pass over the graph where it decides how many blocks are in use and these
+    /// aren't known.
     pub fn full(&mut self, txn: &Txn) -> Result<Option<u16>, ModelRefused>
         ensures shape { self.new.shape ≡ self.old.shape }
         ensures full { IfOk result (λ full. full ≡ full_rank self.old.shape self.old.graph txn.now) }
@@ -130,7 +132,13 @@ impl PlainGraph {
             return Err(ModelRefused::NoMemory);
         }
         self.torn = true;
-        let full = full_on(&mut self.map, &self.used, self.alloc, &self.geometry, txn)?;
+        let full = full_on(
+            &mut self.map,
+            &mut self.usage,
+            self.alloc,
+            &self.geometry,
+            txn,
+        )?;
         self.torn = false;
         Ok(full)
     }

@@ -3,21 +3,22 @@ ghost use Rattle.std.specs.Prelude.{◌≡◌, ◌++◌, IfOk, OnOk};
 ghost use Rattle.std.specs.List.{AllByRecursion};
 ghost use Rattle.std.specs.Option.{option_map, option_to_list};
 ghost use Rattle.rma_layout.specs.Shape.{Shape};
-ghost use Rattle.graph_model.specs.Calls.{graph_after_call};
+ghost use Rattle.graph_model.specs.Calls.{graph_after_call, reply_to};
 ghost use Rattle.graph_model.specs.Capacity as capacity;
 ghost use Rattle.graph_model.specs.Graph.{Graph};
 ghost use Rattle.graph_model.specs.Sizes.{blocks_of_words};
+ghost use Rattle.graph_model.specs.Transactions.{graph_after_calls, replies_to_calls};
 ghost use Rattle.graph_model.specs.WellFormed.{IsWellFormed};
 ghost use Rattle.graph_undo.specs.Undo.{LeadBack, noted_before};
 ghost use Rattle.map_graph.specs.Named.{rank_in};
-ghost use Rattle.plain_graph.specs.Seen.{AreSeen, IsNamedThere, seen_as, with_before};
+ghost use Rattle.plain_graph.specs.Seen.{AreSeen, IsNamedThere, Shows, seen_as, with_before};
 ghost use Rattle.plain_graph.specs.Touching.{spot_named};
 ghost use Rattle.plain_graph.specs.Trials.{Tells, blocks_there};
 
 mod touched;
 
 use crate::growth::Growth;
-use gdi_kinds::Call;
+use gdi_kinds::{Call, Reply, ReplyList};
 use map_graph::{Journal, MapGraph, ModelRefused, ObjectName};
 use rma_layout::Geometry;
 use std::alloc::Global;
@@ -28,6 +29,16 @@ use touched::Touched;
 pub(crate) struct Trial {
     pub(crate) makes: Vec<u16>,
     pub(crate) touched: Vec<Growth>,
+}
+
+/// What calls did: their replies, the ranks on which they made objects, in order, the objects that they touched, as these
+/// are now, with no blocks before, and the steps that lead back.
+#[derive(Drop)]
+pub(crate) struct Attempt {
+    pub(crate) replies: ReplyList,
+    pub(crate) makes: Vec<u16>,
+    pub(crate) touched: Vec<Growth>,
+    pub(crate) journal: Journal,
 }
 
 /// Does calls and takes them back, and tells what they would leave. After a refusal the graph is only to be dropped.
@@ -43,15 +54,47 @@ pub(crate) fn try_calls(
     ensures graph { OnOk result (map.new.graph ≡ map.old.graph) }
     ensures tells { IfOk result (λ trial. Tells map.old.shape map.old.graph calls.now trial) }
 {
+    let Attempt {
+        makes,
+        touched,
+        mut journal,
+        ..
+    } = attempt_calls(alloc, geometry, map, calls)?;
+    map.roll_back(&mut journal)?;
+    let touched = grown(alloc, &geometry, map, touched.as_slice())?;
+    Ok(Trial { makes, touched })
+}
+
+/// Does calls, and tells what they did. After a refusal the graph is only to be dropped.
+pub(crate) fn attempt_calls(
+    alloc: Global,
+    geometry: Geometry,
+    map: &mut MapGraph,
+    calls: &[Call],
+) -> Result<Attempt, ModelRefused>
+    requires well_formed { IsWellFormed map.old.graph }
+    requires geometry { geometry ≡ map.old.shape }
+    ensures shape { map.new.shape ≡ map.old.shape }
+    ensures graph { OnOk result (map.new.graph ≡ graph_after_calls map.old.shape map.old.graph calls.now) }
+    ensures well_formed { OnOk result (IsWellFormed map.new.graph) }
+    ensures replies { IfOk result (λ attempt. attempt.replies ≡ replies_to_calls map.old.shape map.old.graph calls.now) }
+    ensures shows { IfOk result (λ attempt. Shows map.old.shape map.old.graph calls.now attempt.makes.items attempt.touched.items) }
+    ensures leads { IfOk result (λ attempt. LeadBack attempt.journal map.new.graph map.old.graph) }
+{
     let mut journal = Journal::new(alloc);
     let mut makes = Vec::new(alloc);
+    let mut replies = ReplyList::new(alloc);
     for call in calls {
-        try_call(&geometry, map, call, &mut journal, &mut makes)?;
+        let reply = try_call(&geometry, map, call, &mut journal, &mut makes)?;
+        replies.push(reply)?;
     }
-    let seen = seen_after(alloc, &geometry, map, &journal)?;
-    map.roll_back(&mut journal)?;
-    let touched = grown(alloc, &geometry, map, seen.as_slice())?;
-    Ok(Trial { makes, touched })
+    let touched = seen_after(alloc, &geometry, map, &journal)?;
+    Ok(Attempt {
+        replies,
+        makes,
+        touched,
+        journal,
+    })
 }
 
 // Does a call, notes what leads back, and puts the rank on which it makes an object behind others, if it makes one.
@@ -61,10 +104,11 @@ fn try_call(
     call: &Call,
     journal: &mut Journal,
     makes: &mut Vec<u16>,
-) -> Result<(), ModelRefused>
+) -> Result<Reply, ModelRefused>
     requires well_formed { IsWellFormed map.old.graph }
     requires geometry { geometry.now ≡ map.old.shape }
     ensures shape { map.new.shape ≡ map.old.shape }
+    ensures reply { IfOk result (λ reply. reply ≡ reply_to map.old.shape map.old.graph call.now) }
     ensures graph { OnOk result (map.new.graph ≡ graph_after_call map.old.shape map.old.graph call.now) }
     ensures well_formed { OnOk result (IsWellFormed map.new.graph) }
     ensures noted { OnOk result (journal.new ≡ journal.old ++ noted_before map.old.graph call.now) }
@@ -74,15 +118,14 @@ fn try_call(
         ≡ makes.old.items ++ option_to_list (capacity.make_of map.old.shape map.old.graph call.now)) }
 {
     let Some(object) = object_to_make(call) else {
-        map.apply_noted(call, journal)?;
-        return Ok(());
+        return map.apply_noted(call, journal);
     };
     let was = map.is_object(object);
-    map.apply_noted(call, journal)?;
+    let reply = map.apply_noted(call, journal)?;
     if !was && map.is_object(object) {
         makes.push(rank_of(geometry, object))?;
     }
-    Ok(())
+    Ok(reply)
 }
 
 /// The object that a call may make.
