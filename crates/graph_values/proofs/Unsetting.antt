@@ -1,0 +1,82 @@
+-- The values of a property are taken from a vertex.
+use Rattle.std.proofs.Common.{◌≡◌, ◌≢◌, ◌∙◌, ℕ, ◌≤◌, Bool, true, false, not, cond, length, Option, Some, None, refl, sym, ap, subst, arith, ◌⊎◌, inl, inr}
+use Rattle.std.specs.Prelude.{◌==◌}
+use Rattle.std.specs.List.{filter}
+use Rattle.std.proofs.lemmas.Bool.Decides.{nat_tests}
+use Rattle.gdi_kinds.specs.declared.call.Call.TheVariants.{Unset}
+use Rattle.gdi_kinds.specs.declared.reply.Reply.{Reply}
+use Rattle.gdi_kinds.specs.declared.reply.Reply.TheVariants.{Done, NoProp, NoType, NoVertex, TooLarge}
+use Rattle.rma_layout.specs.Placement.{Place, metadata}
+use Rattle.rma_layout.specs.Ranges.{IsInRange}
+use Rattle.rma_layout.specs.Shape.{Shape}
+use Rattle.object_words.specs.Contents.{Agrees, Contents, IsByRisingObject, content_of, overlay}
+use Rattle.graph_model.specs.Calls.{graph_after_call, reply_to, steps_of}
+use Rattle.graph_model.specs.Graph.{Graph, Name, Props, Vertex, vertex_at}
+use Rattle.graph_model.specs.Lookups.{type_number}
+use Rattle.graph_model.specs.Maps.{at, is_there, without}
+use Rattle.graph_model.specs.Sizes.{is_too_large, most_words, words_of_props, words_of_values, words_of_vertex}
+use Rattle.graph_model.specs.Steps.{Answer, Step, ◌>>=◌, answer_of, found_or, leaves, refused_if}
+use Rattle.graph_model.specs.VertexCalls.{with_vertex}
+use Rattle.graph_model.proofs.CallsKeepWellFormed as well
+use Rattle.graph_model.proofs.MapSums.{sum_by-filter-le}
+use Rattle.holder_codec.specs.Represents.{EdgeObjects, Represents, VertexObjects, holder_of}
+use Rattle.holder_codec.specs.Vertex.{IsVertexHolder, vertex_words}
+use Rattle.holder_codec.proofs.SizesAreLengths.{vertex_size}
+use Rattle.object_store.specs.State.{StoreState}
+use Rattle.object_store.specs.Works.{At, Looks, Reaches}
+use Rattle.object_store.proofs.Works.{looks-then}
+use Rattle.held_objects.specs.declared.change.Change.{Change}
+use Rattle.held_objects.specs.declared.change.Change.TheVariants.{Made, Refused}
+use Rattle.held_objects.specs.Changes.{Changes, IsHeldAs}
+use Rattle.held_objects.specs.Changes as held
+use Rattle.id_hash.specs.Buckets.{IsBucketFor}
+use Rattle.meta_tables.specs.declared.prop_type.PropType.{PropType}
+use Rattle.vertex_ops.specs.Vertices.{HeldVertex, HoldsVertex, IsOrderly, holder_for, size, unvalued}
+use Rattle.graph_law.specs.declared.law.Noted.{Noted}
+use Rattle.graph_law.specs.Calls.{AppliesCall}
+use Rattle.graph_law.specs.Reach.{IsAsked}
+use Rattle.graph_vertices.specs.Finding.{FindsType}
+use Rattle.graph_vertices.proofs.VertexHere.{agrees_before, none_here}
+use Rattle.graph_values.specs.Spot.{FindsSpot}
+use Rattle.graph_values.proofs.Calling.{IsChanged, IsLeft, change_applied, left_applied, reached_both, reached_names, spot_later}
+use Rattle.graph_values.proofs.Spots.{held_at, orderly_here}
+
+-- ---- how the call ends
+
+abbrev Unsets : ℕ → Graph → Option ℕ → Option Vertex → Step Answer
+Unsets id g t o = found_or NoType t >>= (λ n. found_or (NoVertex id) o >>= (λ vertex. refused_if (not (is_there vertex.props n)) NoProp >>= (λ _. leaves (with_vertex g id (record vertex { props = without vertex.props n })) Done)))
+
+no_prop_apart : NoProp ≡ Done → ⊥
+no_prop_apart never = cc
+
+fewer_words : (props : Props) (n : ℕ) → words_of_props (without props n) ≤ words_of_props props
+fewer_words props n = sum_by-filter-le (λ entry. words_of_values entry.1) (λ entry. not (entry.0 == n)) props
+
+fits_still : (n : ℕ) → n ≤ most_words → is_too_large n ≡ false
+fits_still n few = grind (arith, nat_tests, few)
+
+module _ (shape : Shape) (id : ℕ) (name : Name) (g : Graph) (t : Option ℕ) (o : Option Vertex) (typed : type_number g name ≡ t) (there : vertex_at g id ≡ o) where
+  steps : steps_of shape g (Unset id name) ≡ Unsets id g t o
+  steps = λ i. Unsets id g (typed i) (there i)
+
+  goes_as : graph_after_call shape g (Unset id name) ≡ (answer_of g (Unsets id g t o)).graph
+  goes_as = ap (λ s. (answer_of g s).graph) steps
+
+  replies_as : reply_to shape g (Unset id name) ≡ (answer_of g (Unsets id g t o)).reply
+  replies_as = ap (λ s. (answer_of g s).reply) steps
+
+module _ (shape : Shape) (id n : ℕ) (name : Name) (g : Graph) (before : Vertex) {contents : Contents} (is : Represents shape contents g) (typed : type_number g name ≡ Some n) (there : vertex_at g id ≡ Some before)
+    {object : Place} (holds : HoldsVertex object contents (held_at g is.vertices is.edges id before)) {reply : Reply} where
+  after : Vertex
+  after = record before { props = without before.props n }
+
+  small : is_too_large (size (held_at g is.vertices is.edges id (record before { props = without before.props n }))) ≡ false
+  small =
+      let now = vertex_size g is.vertices is.edges id (record before { props = without before.props n }) in
+      let was = vertex_size g is.vertices is.edges id before in
+      let few : length (vertex_words (holder_of g is.vertices is.edges id before)) ≤ most_words = subst (λ ws. length ws ≤ most_words) holds.words holds.within in
+      fits_still (size (held_at g is.vertices is.edges id (record before { props = without before.props n }))) (omega (arith, now, was, few, fewer_words before.props n))
+
+  unset_ends : reply ≡ held.reply_to size (unvalued n (held_at g is.vertices is.edges id before))
+      → IsLeft {Unset id name} {id} asked unmade shape reply (unvalued n) g is.vertices is.edges before ⊎ IsChanged shape reply (unvalued n) g is.vertices is.edges before
+  unset_ends answer = ?
