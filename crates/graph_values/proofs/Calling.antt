@@ -44,6 +44,20 @@ module _ {N : Type 0} {id : ℕ} {old mid new : StoreState N} {found : Option Pl
   pub spot_later : Found old.shape old.writes
   spot_later = subst (λ (writes : Contents). Found old.shape writes) looks.writes (subst (λ (shape : Shape). Found shape mid.writes) looks.stays.shape finds.object)
 
+-- how a call on a vertex ends: it leaves the graph, or changes the vertex, but not its labels
+module _ (call : Call) (id : ℕ) (shape : Shape) (reply : Reply) (change : HeldVertex → Change HeldVertex) (g : Graph) (vertices : VertexObjects) (edges : EdgeObjects) (before : Vertex) where
+  abbrev pub IsLeft : Type 0
+  IsLeft = (graph_after_call shape g call ≡ g) × (reply ≡ reply_to shape g call) × (reply ≢ Done)
+
+  pub record IsChanged : Type 0 where
+    pub after : Vertex
+    pub labels : after.labels ≡ before.labels
+    pub made : change (held_at g vertices edges id before) ≡ Made (held_at g vertices edges id after)
+    pub done : reply ≡ Done
+    pub goes : graph_after_call shape g call ≡ with_vertex g id after
+    pub answer : reply ≡ reply_to shape g call
+    pub well : IsWellFormed (with_vertex g id after)
+
 module _ {call : Call} {id : ℕ} (asked : (g : Graph) → IsAsked g call id) (unmade : (shape : Shape) (g : Graph) → make_of shape g call ≡ None) where
   -- a call that leaves the graph is refused
   pub left_applied : {old new : StoreState Noted} {reply : Reply} → Looks old new
@@ -72,21 +86,7 @@ module _ {call : Call} {id : ℕ} (asked : (g : Graph) → IsAsked g call id) (u
       | inr later ↦ elim (reached_names store g is place) [ inl here ↦ inl here | inr earlier ↦ inr (later ∙ earlier) ]
     ]
 
-  -- ---- a call that changes the vertex
-
-  module _ (shape : Shape) (reply : Reply) (change : HeldVertex → Change HeldVertex) (g : Graph) (vertices : VertexObjects) (edges : EdgeObjects) (before : Vertex) where
-    abbrev pub IsLeft : Type 0
-    IsLeft = (graph_after_call shape g call ≡ g) × (reply ≡ reply_to shape g call) × (reply ≢ Done)
-
-    pub record IsChanged : Type 0 where
-      pub after : Vertex
-      pub labels : after.labels ≡ before.labels
-      pub made : change (held_at g vertices edges id before) ≡ Made (held_at g vertices edges id after)
-      pub done : reply ≡ Done
-      pub goes : graph_after_call shape g call ≡ with_vertex g id after
-      pub answer : reply ≡ reply_to shape g call
-      pub well : IsWellFormed (with_vertex g id after)
-
+  -- a call that changes the vertex
   module _ (FitsSo : HeldVertex → Type 0) (change : HeldVertex → Change HeldVertex) {old led new : StoreState Noted} {object : Place} {reply : Reply} {Makes : ℕ → Type 0}
       (ranges : IsInRange old.shape) (looks : Looks old led)
       (leads : (store : Contents) (g : Graph) (is : Represents old.shape (overlay store old.writes) g) → Agrees led.reads store → Some object ≡ at is.vertices id)
@@ -98,7 +98,7 @@ module _ {call : Call} {id : ℕ} (asked : (g : Graph) → IsAsked g call id) (u
       (ends : (store : Contents) (g : Graph) (is : Represents old.shape (overlay store old.writes) g) → Agrees led.reads store → (before : Vertex) → vertex_at g id ≡ Some before
       → IsHeldAs IsVertexHolder vertex_words holder_for FitsSo object (overlay store old.writes) (held_at g is.vertices is.edges id before)
       → reply ≡ held.reply_to size (change (held_at g is.vertices is.edges id before))
-      → IsLeft old.shape reply change g is.vertices is.edges before ⊎ IsChanged old.shape reply change g is.vertices is.edges before) where
+      → IsLeft call id old.shape reply change g is.vertices is.edges before ⊎ IsChanged call id old.shape reply change g is.vertices is.edges before) where
     module _ (store : Contents) (g : Graph) (is : Represents old.shape (overlay store old.writes) g) (agrees : Agrees new.reads store) where
       earlier : Agrees led.reads store
       earlier = agrees_before reaches.stays store agrees

@@ -1,5 +1,5 @@
 -- The values of a property are taken from a vertex.
-use Rattle.std.proofs.Common.{◌≡◌, ◌≢◌, ◌∙◌, ℕ, ◌≤◌, Bool, true, false, not, cond, length, Option, Some, None, refl, sym, ap, subst, arith, ◌⊎◌, inl, inr}
+use Rattle.std.proofs.Common.{◌≡◌, ◌≢◌, ◌∙◌, ℕ, ◌≤◌, Bool, true, false, not, cond, List, length, Option, Some, None, refl, sym, ap, subst, arith, ◌⊎◌, inl, inr}
 use Rattle.std.specs.Prelude.{◌==◌}
 use Rattle.std.specs.List.{filter}
 use Rattle.std.proofs.lemmas.Bool.Decides.{nat_tests}
@@ -10,6 +10,7 @@ use Rattle.rma_layout.specs.Placement.{Place, metadata}
 use Rattle.rma_layout.specs.Ranges.{IsInRange}
 use Rattle.rma_layout.specs.Shape.{Shape}
 use Rattle.object_words.specs.Contents.{Agrees, Contents, IsByRisingObject, content_of, overlay}
+use Rattle.graph_model.specs.Capacity.{make_of}
 use Rattle.graph_model.specs.Calls.{graph_after_call, reply_to, steps_of}
 use Rattle.graph_model.specs.Graph.{Graph, Name, Props, Vertex, vertex_at}
 use Rattle.graph_model.specs.Lookups.{type_number}
@@ -67,16 +68,85 @@ module _ (shape : Shape) (id : ℕ) (name : Name) (g : Graph) (t : Option ℕ) (
 
 module _ (shape : Shape) (id n : ℕ) (name : Name) (g : Graph) (before : Vertex) {contents : Contents} (is : Represents shape contents g) (typed : type_number g name ≡ Some n) (there : vertex_at g id ≡ Some before)
     {object : Place} (holds : HoldsVertex object contents (held_at g is.vertices is.edges id before)) {reply : Reply} where
-  after : Vertex
+  abbrev after : Vertex
   after = record before { props = without before.props n }
 
-  small : is_too_large (size (held_at g is.vertices is.edges id (record before { props = without before.props n }))) ≡ false
+  abbrev held_after : HeldVertex
+  held_after = held_at g is.vertices is.edges id after
+
+  abbrev Ends : Bool → Step Answer
+  Ends b = refused_if (not b) NoProp >>= (λ _. leaves (with_vertex g id after) Done)
+
+  abbrev Makes : Bool → Change HeldVertex
+  Makes b = cond b (Made held_after) (Refused NoProp)
+
+  small : is_too_large (size held_after) ≡ false
   small =
-      let now = vertex_size g is.vertices is.edges id (record before { props = without before.props n }) in
+      let now = vertex_size g is.vertices is.edges id after in
       let was = vertex_size g is.vertices is.edges id before in
-      let few : length (vertex_words (holder_of g is.vertices is.edges id before)) ≤ most_words = subst (λ ws. length ws ≤ most_words) holds.words holds.within in
-      fits_still (size (held_at g is.vertices is.edges id (record before { props = without before.props n }))) (omega (arith, now, was, few, fewer_words before.props n))
+      let few : length (vertex_words (holder_of g is.vertices is.edges id before)) ≤ most_words = subst (λ (ws : List ℕ). length ws ≤ most_words) holds.words holds.within in
+      let fewer = fewer_words before.props n in
+      fits_still (size held_after) (omega (arith, now, was, few, fewer))
 
   unset_ends : reply ≡ held.reply_to size (unvalued n (held_at g is.vertices is.edges id before))
-      → IsLeft {Unset id name} {id} asked unmade shape reply (unvalued n) g is.vertices is.edges before ⊎ IsChanged shape reply (unvalued n) g is.vertices is.edges before
-  unset_ends answer = ?
+      → IsLeft (Unset id name) id shape reply (unvalued n) g is.vertices is.edges before ⊎ IsChanged (Unset id name) id shape reply (unvalued n) g is.vertices is.edges before
+  unset_ends answer = cases (is_there before.props n) refl
+    where
+      goes : (b : Bool) → is_there before.props n ≡ b → graph_after_call shape g (Unset id name) ≡ (answer_of g (Ends b)).graph
+      goes b is_so = goes_as shape id name g (Some n) (Some before) typed there ∙ ap (λ b. (answer_of g (Ends b)).graph) is_so
+
+      replies : (b : Bool) → is_there before.props n ≡ b → reply_to shape g (Unset id name) ≡ (answer_of g (Ends b)).reply
+      replies b is_so = replies_as shape id name g (Some n) (Some before) typed there ∙ ap (λ b. (answer_of g (Ends b)).reply) is_so
+
+      made : (b : Bool) → is_there before.props n ≡ b → unvalued n (held_at g is.vertices is.edges id before) ≡ Makes b
+      made b is_so = ap Makes is_so
+
+      cases : (b : Bool) → is_there before.props n ≡ b
+          → IsLeft (Unset id name) id shape reply (unvalued n) g is.vertices is.edges before ⊎ IsChanged (Unset id name) id shape reply (unvalued n) g is.vertices is.edges before
+      cases true is_so =
+          let done : reply ≡ Done = answer ∙ (ap (held.reply_to size) (made true is_so) ∙ ap (λ b. cond b TooLarge Done) small) in
+          inr (record {
+            after = after;
+            labels = refl;
+            made = made true is_so;
+            done = done;
+            goes = goes true is_so;
+            answer = done ∙ sym (replies true is_so);
+            well = well.unset_prop g id n before is.well_formed there;
+          })
+      cases false is_so =
+          let none : reply ≡ NoProp = answer ∙ ap (held.reply_to size) (made false is_so) in
+          inl (goes false is_so, none ∙ sym (replies false is_so), λ done. no_prop_apart (sym none ∙ done))
+
+-- ---- what it does
+
+module _ {id : ℕ} {name : Name} {old mid : StoreState Noted} {Makes : ℕ → Type 0} (ranges : IsInRange old.shape) (names : Reaches (At metadata old.shape) Makes old mid) where
+  asked : (g : Graph) → IsAsked g (Unset id name) id
+  asked g = (0, omega arith, refl)
+
+  unmade : (shape : Shape) (g : Graph) → make_of shape g (Unset id name) ≡ None
+  unmade shape g = refl
+
+  pub no_type_applied : FindsType name old mid None → AppliesCall (Unset id name) old mid NoType
+  no_type_applied typed = left_applied asked unmade typed.looks
+      (λ store g is agrees.
+      let none = typed.type store g is agrees in
+      (goes_as old.shape id name g None (vertex_at g id) none refl, sym (replies_as old.shape id name g None (vertex_at g id) none refl)))
+      (reached_names asked unmade ranges names)
+
+  module _ {led : StoreState Noted} {Homes : ℕ → Type 0} {type : PropType} (typed : FindsType name old mid (Some type)) (bucket : Reaches (IsBucketFor id mid.shape) Homes mid led) where
+    pub no_vertex_applied : FindsSpot id mid led None → AppliesCall (Unset id name) old led (NoVertex id)
+    no_vertex_applied finds = left_applied asked unmade (looks-then typed.looks finds.looks)
+        (λ store g is agrees.
+        let some = (typed.type store g is (agrees_before bucket.stays store agrees)).0 in
+        let none = none_here ranges is id (sym (spot_later typed.looks finds store g is agrees)) in
+        (goes_as old.shape id name g (Some type.number) None some none, sym (replies_as old.shape id name g (Some type.number) None some none)))
+        (reached_both asked unmade ranges names bucket)
+
+    pub unset_applied : {new : StoreState Noted} {object : Place} {reply : Reply} {Others : ℕ → Type 0} → FindsSpot id mid led (Some object) → IsByRisingObject old.writes → IsByRisingObject new.writes
+        → Reaches (At object led.shape) Others led new → Changes (HoldsVertex object) size (unvalued type.number) led new reply → AppliesCall (Unset id name) old new reply
+    unset_applied {new} {object} {reply} finds ordered ordered_after reaches changes =
+        change_applied asked unmade IsOrderly (unvalued type.number) ranges (looks-then typed.looks finds.looks) (spot_later typed.looks finds) (reached_both asked unmade ranges names bucket)
+        ordered ordered_after reaches changes (λ store g is agrees led_to. orderly_here ranges is id led_to)
+        (λ store g is agrees before there holds answer.
+        unset_ends old.shape id type.number name g before is (typed.type store g is (agrees_before bucket.stays store agrees)).0 there holds answer)
