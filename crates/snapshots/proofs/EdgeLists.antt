@@ -1,6 +1,6 @@
 -- The heavy edges of a graph in a list, by source and ordinal.
-use Rattle.std.proofs.Common.{◌≡◌, ℕ, ◌<◌, ◌≤◌, Bool, true, false, cond, List, [], ◌∷◌, map, length, slice_get, Option, Some, None, Result, Ok, Err, MatchResult, refl, sym, ap, ◌∙◌, IsTrue}
-use Rattle.std.specs.Option.{option_map, option_copied}
+use Rattle.std.proofs.Common.{◌≡◌, ℕ, ◌<◌, ◌≤◌, Bool, true, false, cond, List, [], ◌∷◌, map, length, slice_get, Some, None, Result, Ok, Err, MatchResult, refl, sym, ap, ◌∙◌}
+use Rattle.std.specs.Option.{option_map}
 use Rattle.std.specs.List.{insert}
 use Rattle.std.specs.Ordering.{nat_cmp, ordering_then, is_eq, eq_by_cmp}
 use Rattle.std.specs.Cmp.{IsTotalOrder, then_total, on_total, nat_cmp_total}
@@ -10,16 +10,14 @@ use Rattle.std.specs.FinMap.{IsAntisymmetric, nat_cmp-IsAntisymmetric, find}
 use Rattle.graph_model.specs.Maps.{Map, IsMap}
 use Rattle.graph_model.specs.Graph.{PropType, Graph, Edge, EdgeKey, edge_cmp}
 use Rattle.graph_model.proofs.Entries.{IsMap-filter, edge_cmp_same}
-use Rattle.rising_lists.specs.Rising.{item_of, with_item}
-use Rattle.holder_codec.specs.declared.edge_form.EdgeForm.TheVariants.{Plain}
+use Rattle.rising_lists.specs.Rising.{with_item}
 use Rattle.holder_codec.specs.declared.edge_holder.EdgeHolder.{EdgeHolder}
-use Rattle.holder_codec.specs.declared.edge_record.EdgeRecord.{EdgeRecord}
 use Rattle.holder_codec.specs.Order.{is_rising}
 use Rattle.holder_codec.specs.Represents.{VertexObjects, EdgeObjects, heavy_edges}
 use Rattle.graph_model.specs.Graph.{is_heavy}
 use Rattle.holder_codec.proofs.Maps.{All-always, rising-map}
 use Rattle.snapshots.specs.Copies.{Copied, IsCopy, edge_holder_of}
-use Rattle.snapshots.specs.HeldEdges.{Pair, pair_of, pair_cmp, is_edge_before, edge_for, edge_of_record, held_edge}
+use Rattle.snapshots.specs.HeldEdges.{Pair, pair_of, pair_cmp, is_edge_before, edge_for, held_edge}
 
 pub pair_total : IsTotalOrder pair_cmp
 pair_total = then_total (on_total (λ (p : Pair). p.0) nat_cmp_total) (on_total (λ (p : Pair). p.1) nat_cmp_total)
@@ -43,7 +41,7 @@ abbrev Found : List EdgeHolder → Pair → ℕ → Type 0
 Found es pair place = (found : EdgeHolder) × (slice_get es place ≡ Some found) × (edge_for es pair ≡ Some found)
 
 -- a search tells whether the edge is there
-pub searched : (es : List EdgeHolder) (pair : Pair) (r : Result ℕ ℕ) → MatchResult r (λ i. i < length es) (λ _. Unit {0})
+pub searched : (es : List EdgeHolder) (pair : Pair) (r : Result ℕ ℕ) → MatchResult r (λ i. i < length es) (λ i. i ≤ length es)
     → MatchResult r (Found es pair) (λ i. (i ≤ length es) × (edge_for es pair ≡ None) × ((edge : EdgeHolder) → pair_of edge ≡ pair → insert es i edge ≡ with_item pair_of pair_cmp edge es))
     → MatchResult r (λ i. (i < length es) × Found es pair i) (λ _. edge_for es pair ≡ None)
 searched es pair (Ok i) within found = (within, found)

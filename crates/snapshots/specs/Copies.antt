@@ -1,6 +1,5 @@
 -- A graph in plain lists of what its objects hold.
 use Rattle.std.specs.Prelude.{◌≡◌, ℕ, List, map}
-use Rattle.rma_layout.specs.Placement.{Place}
 use Rattle.graph_model.specs.Graph.{PropType, Graph, Edge, EdgeKey}
 use Rattle.graph_model.specs.WellFormed.{IsWellFormed}
 use Rattle.holder_codec.specs.declared.edge_holder.EdgeHolder.{EdgeHolder}

@@ -11,10 +11,7 @@ pub(crate) fn edge_of_record(id: u64, line: &EdgeRecord) -> (u64, u64)
     ensures source { result.0 ≡ (edge_of_record id line.now).source }
     ensures ordinal { result.1 ≡ (edge_of_record id line.now).ordinal }
 {
-    (
-        if line.inward { line.other } else { id },
-        line.ordinal,
-    )
+    (if line.inward { line.other } else { id }, line.ordinal)
 }
 
 /// The edge of this source and ordinal, if it is among these.
