@@ -1,5 +1,5 @@
 -- How many objects are made by a call that makes one.
-use Rattle.std.proofs.Common.{◌≡◌, ◌≢◌, ◌∙◌, ℕ, zero, suc, ◌+◌, ◌<◌, Bool, true, false, not, ◌&&◌, cond, [], ◌∷◌, Some, None, IsSome, refl, sym, ap, arith, ◌⊎◌, inl, inr}
+use Rattle.std.proofs.Common.{◌≡◌, ◌≢◌, ◌∙◌, ℕ, zero, suc, ◌+◌, ◌<◌, Bool, true, false, not, ◌&&◌, cond, [], Some, None, IsSome, refl, sym, ap, arith, ◌⊎◌, inl, inr}
 use Rattle.std.specs.Prelude.{count_by, is_some, ◌==◌}
 use Rattle.std.specs.Option.{option_to_list}
 use Rattle.std.proofs.lemmas.Bool.Decides.{nat_tests}
