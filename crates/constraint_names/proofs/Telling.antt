@@ -10,7 +10,7 @@ use Rattle.gdi_kinds.specs.declared.constraint.Atom.{Atom}
 use Rattle.gdi_kinds.specs.declared.constraint.Atom.TheVariants.{Has, Lacks, Prop}
 use Rattle.gdi_kinds.specs.declared.reply.Reply.{Reply}
 use Rattle.gdi_kinds.specs.declared.reply.Reply.TheVariants as reply
-use Rattle.gdi_kinds.specs.declared.value.Kind.{Kind}
+use Rattle.gdi_kinds.specs.Constraint.{kind_of, same_kind}
 use Rattle.graph_model.specs.Graph.{Graph, Name, PropType}
 use Rattle.graph_model.specs.Lookups.{kind_at, label_number, type_number}
 use Rattle.graph_model.specs.ListCalls.{is_of_wrong_kind, kinds_agree, names_known}
@@ -104,3 +104,19 @@ alike_known g h labels types [] = refl
 alike_known g h labels types (Has name ∷ atoms) = λ i. refused_if (is_none (labels name i)) reply.NoLabel >>= (λ _. alike_known g h labels types atoms i)
 alike_known g h labels types (Lacks name ∷ atoms) = λ i. refused_if (is_none (labels name i)) reply.NoLabel >>= (λ _. alike_known g h labels types atoms i)
 alike_known g h labels types (Prop name op value ∷ atoms) = λ i. refused_if (is_none (types name i)) reply.NoType >>= (λ _. alike_known g h labels types atoms i)
+
+pub known_by_names : (g : Graph) (atoms : List Atom) → names_known (named (names_of g)) atoms ≡ names_known g atoms
+known_by_names g = alike_known (named (names_of g)) g (λ name. refl) (λ name. ap (place_where (λ (type : PropType). bytes_eq name type.name)) (types_again g.types))
+
+any_alike : {X : Type 0} (p q : X → Bool) → ((x : X) → p x ≡ q x) → (xs : List X) → list_any p xs ≡ list_any q xs
+any_alike p q same [] = refl
+any_alike p q same (x ∷ xs) = λ i. same x i || any_alike p q same xs i
+
+wrong_alike : (g : Graph) (atom : Atom) → is_of_wrong_kind (named (names_of g)) atom ≡ is_of_wrong_kind g atom
+wrong_alike g (Has name) = refl
+wrong_alike g (Lacks name) = refl
+wrong_alike g (Prop name op value) =
+    ap (λ (types : List PropType). option_map_or (λ n. not (same_kind (kind_of value) (kind_at (record { labels = []; types = types; vertices = []; edges = [] }) n))) (place_where (λ (type : PropType). bytes_eq name type.name) types) false) (types_again g.types)
+
+pub kinds_by_names : (g : Graph) (atoms : List Atom) → kinds_agree (named (names_of g)) atoms ≡ kinds_agree g atoms
+kinds_by_names g atoms = ap (λ b. refused_if b reply.WrongKind) (any_alike (is_of_wrong_kind (named (names_of g))) (is_of_wrong_kind g) (wrong_alike g) atoms)
