@@ -15,3 +15,5 @@ pub mod CommitFacts
 pub mod SurplusFacts
 pub mod EntryFacts
 pub mod MadeGone
+pub mod AloneFacts
+pub mod GrownFacts

@@ -123,7 +123,7 @@ module _ (shape : Shape) (writes : Contents) (all : List (Place × Known)) (firs
           are = blocks_are ∙ ap (λ l. l ++ extras) (sym by.2);
           kept_is = plans.kept ∙ ap length (sym by.2);
           used_is = plans.used ∙ asked_are shape plan.at (content_of writes plan.at);
-          enough = plans.enough;
+          enough = omega (arith, plans.just);
           some_block = omega (arith, ap length plans.grown.blocks, length-append (chain ++ own_start plan.at chain) plans.grown.more, start_some plan.at chain);
           lies = record {
             begins = subst (BeginsAt plan.at) (sym plans.grown.blocks)

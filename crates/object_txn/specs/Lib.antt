@@ -6,3 +6,4 @@ pub mod Endings
 pub mod Plans
 pub mod Planning
 pub mod Committing
+pub mod Alone

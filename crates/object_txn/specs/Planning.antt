@@ -1,5 +1,5 @@
 -- Which blocks the objects that a transaction has written are to have.
-use Rattle.std.specs.Prelude.{◌≡◌, ◌≢◌, ℕ, ◌+◌, ◌<◌, ◌≤◌, ◌⊎◌, List, [], ◌∷◌, ◌++◌, length, Some, None}
+use Rattle.std.specs.Prelude.{◌≡◌, ◌≢◌, ℕ, ◌+◌, ◌<◌, ◌≤◌, ◌⊎◌, List, [], ◌∷◌, ◌++◌, length, max, Some, None}
 use Rattle.std.specs.List.{AllByRecursion}
 use Rattle.rma_layout.specs.Shape.{Shape}
 use Rattle.rma_layout.specs.Placement.{Place}
@@ -25,13 +25,13 @@ pub record Grows (home : ℕ) (old new before after : List Place) : Type 0 where
   pub blocks : after ≡ before ++ more
   pub on_home : AllByRecursion (λ (block : Place). block.rank ≡ home) more
 
--- an object that has these blocks is to have so many words: blocks were taken for it as far as it needs more
+-- an object that has these blocks is to have so many words: just so many blocks were taken for it as it needs more
 pub record Plans (shape : Shape) (chain : List Place) (words : ℕ) (old new : List Place)
     (plan : Plan) : Type 0 where
   pub kept : plan.kept ≡ length chain
   pub used : plan.used ≡ blocks_asked shape plan.at words
   pub grown : Grows plan.at.rank old new (chain ++ own_start plan.at chain) plan.blocks
-  pub enough : plan.used ≤ length plan.blocks
+  pub just : length plan.blocks ≡ max (length (chain ++ own_start plan.at chain)) plan.used
 
 -- where the object is written, it was planned
 abbrev pub PlansNext : Shape → Contents → Place → List Place → List Place → List Place → List Plan

@@ -9,10 +9,12 @@ ghost use Rattle.window_rule.specs.Partition.{places_of, times};
 ghost use Rattle.window_rule.specs.Pool.{MayBeFree};
 ghost use Rattle.window_rule.specs.Trails.{Follows};
 ghost use Rattle.window_rule.specs.Truths.{IsTrueView};
+ghost use Rattle.block_pool.specs.Alone.{used_blocks};
 ghost use Rattle.block_pool.specs.Moves.{OnlyTaken};
 ghost use Rattle.object_store.specs.declared.phase.Phase.TheVariants.{Writing};
 ghost use Rattle.object_store.specs.State.{names_nothing, names_rank};
 ghost use Rattle.object_txn.specs.State.{named_by};
+ghost use Rattle.object_txn.specs.Alone.{IsFull, OwnsTaken};
 ghost use Rattle.object_txn.specs.Causes.{Explains};
 ghost use Rattle.object_txn.specs.Moves.{Makes, NamesHome, NamesRank, OwnsNoted, Takes};
 ghost use Rattle.object_txn.specs.Tied.{HasTaken, IsTied, KnowsChains, words_in};
@@ -44,6 +46,13 @@ pub(crate) fn make<L: Law>(
     ensures chains { OnOk result (KnowsChains rank.new.view txn.new) }
     ensures phase { txn.new.phase ≡ txn.old.phase }
     ensures owns { OwnsNoted rank.old.view rank.new.view txn.old.taken.items txn.new.taken.items }
+    ensures alone { OwnsTaken window.now.shape rank.old txn.old.taken.items → OwnsTaken window.now.shape rank.new txn.new.taken.items }
+    ensures room { OwnsTaken window.now.shape rank.old txn.old.taken.items
+        → OnOk result (used_blocks window.now.shape home rank.old.view < window.now.shape.blocks) }
+    ensures full { OwnsTaken window.now.shape rank.old txn.old.taken.items
+        → IfErr result (λ why. named_by why ≡ names_rank home → used_blocks window.now.shape home rank.old.view ≡ window.now.shape.blocks) }
+    ensures first { txn.new.first ≡ txn.old.first }
+    ensures gains { IfOk result (λ made. txn.new.taken.items ≡ txn.old.taken.items ++ made ∷ []) }
     ensures makes { IfOk result (λ made. Makes window.now.shape home rank.new.view txn.old txn.new made) }
     ensures names { IfErr result (λ why. NamesHome home (named_by why)) }
     ensures refused { IfErr result (λ why. Explains window.now.shape rank.old.view rank.new.view why) }
@@ -74,7 +83,12 @@ pub(crate) fn take_one<L: Law>(
     ensures taken { HasTaken window.now.shape rank.new.view.private rank.new.spares taken.new.items }
     ensures noted { IfOk result (λ block. Takes window.now.shape home block rank.new.view taken.old.items taken.new.items) }
     ensures unnoted { OnErr result (taken.new.items ≡ taken.old.items) }
+    ensures unmoved { OnErr result (rank.new.view.private ≡ rank.old.view.private) }
     ensures owns { OwnsNoted rank.old.view rank.new.view taken.old.items taken.new.items }
+    ensures alone { OwnsTaken window.now.shape rank.old taken.old.items → OwnsTaken window.now.shape rank.new taken.new.items }
+    ensures room { OwnsTaken window.now.shape rank.old taken.old.items
+        → OnOk result (used_blocks window.now.shape home rank.old.view < window.now.shape.blocks) }
+    ensures full { OwnsTaken window.now.shape rank.old taken.old.items → IfErr result (IsFull window.now.shape home rank.new.view) }
     ensures only { OnlyTaken rank.old.view rank.new.view }
     ensures names { IfErr result (λ why. NamesRank home (named_by why)) }
     ensures refused { IfErr result (λ why. Explains window.now.shape rank.old.view rank.new.view why) }
@@ -123,6 +137,7 @@ fn meet<L: Law>(window: &Window<L>, rank: &mut Rank<L>, txn: &Txn, at: DPtr)
     ensures others { (other : Place) → other ≢ at → known_of rank.new.view.known other ≡ known_of rank.old.view.known other }
     ensures locks { rank.new.view.locks ≡ rank.old.view.locks }
     ensures private { rank.new.view.private ≡ rank.old.view.private }
+    ensures bounds { rank.new.view.bounds ≡ rank.old.view.bounds }
     ensures follows { Follows rank.old.view rank.new.view }
 {
     if txn.reads.has(at) {

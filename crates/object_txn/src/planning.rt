@@ -1,6 +1,7 @@
-ghost use Rattle.std.specs.Prelude.{◌≡◌, ◌≢◌, ◌+◌, ◌<◌, ◌≤◌, ◌⊎◌, ℕ, List, [], ◌∷◌, ◌++◌, length, Some, None, IfErr, IfOk, OnErr, OnOk};
+ghost use Rattle.std.specs.Prelude.{◌≡◌, ◌≢◌, ◌+◌, ◌<◌, ◌≤◌, ◌⊎◌, ℕ, List, [], ◌∷◌, ◌++◌, length, max, Some, None, IfErr, IfOk, OnErr, OnOk};
 ghost use Rattle.rma_layout.specs.Placement.{IsBlock, Place};
-ghost use Rattle.object_words.specs.Contents.{words_at};
+ghost use Rattle.object_words.specs.Contents.{content_of, words_at};
+ghost use Rattle.object_words.specs.Entries.{store_after};
 ghost use Rattle.window_rule.specs.Known.{known_of};
 ghost use Rattle.window_rule.specs.Objects.{LiesAt};
 ghost use Rattle.window_rule.specs.Partition.{places_of, times};
@@ -11,6 +12,7 @@ ghost use Rattle.object_moves.specs.Loads.{blocks_asked};
 ghost use Rattle.object_moves.specs.Noted.{blocks_of};
 ghost use Rattle.object_store.specs.declared.phase.Phase.TheVariants.{Writing};
 ghost use Rattle.object_store.specs.State.{names_nothing, names_rank};
+ghost use Rattle.object_txn.specs.Alone.{FallsShort, IsFull, OwnsTaken, StopsAt};
 ghost use Rattle.object_txn.specs.Causes.{Explains};
 ghost use Rattle.object_txn.specs.Moves.{NamesRank, OwnsNoted};
 ghost use Rattle.object_txn.specs.Planning.{AreAllPlans, Grows, Plans, PlansNext, own_start};
@@ -45,6 +47,9 @@ pub(crate) fn plan_writes<L: Law>(
     ensures same { txn.new ≡ record txn.old { chains = txn.new.chains; taken = txn.new.taken } }
     ensures more { (block : Place) → times block txn.old.taken.items ≤ times block txn.new.taken.items }
     ensures owns { OwnsNoted rank.old.view rank.new.view txn.old.taken.items txn.new.taken.items }
+    ensures alone { OwnsTaken window.now.shape rank.old txn.old.taken.items → OwnsTaken window.now.shape rank.new txn.new.taken.items }
+    ensures stops { OwnsTaken window.now.shape rank.old txn.old.taken.items → IfErr result (λ why. (home : ℕ) → named_by why ≡ names_rank home
+        → StopsAt window.now.shape (store_after rank.old.view.seen) txn.old.writes txn.old.taken.items txn.new.taken.items rank.new.view home) }
     ensures plans { IfOk result (λ plans. AreAllPlans window.now.shape txn.new.writes rank.new.view.known txn.new.taken.items plans.items) }
     ensures gains { IfOk result (λ plans. (block : Place) → times block (places_of rank.new.view.private) ≤ times block (places_of rank.old.view.private) + taken_for block plans.items) }
     ensures truths { OnOk result (IsTrueView L.fits window.now.shape rank.new.view) }
@@ -88,7 +93,10 @@ fn plan_all<L: Law>(
     ensures only { OnlyTaken rank.old.view rank.new.view }
     ensures plans { IfOk result (λ plans. AreAllPlans window.now.shape writes.now rank.old.view.known taken.new.items plans.items) }
     ensures owns { OwnsNoted rank.old.view rank.new.view taken.old.items taken.new.items }
+    ensures alone { OwnsTaken window.now.shape rank.old taken.old.items → OwnsTaken window.now.shape rank.new taken.new.items }
     ensures gains { IfOk result (λ plans. (block : Place) → times block (places_of rank.new.view.private) ≤ times block (places_of rank.old.view.private) + taken_for block plans.items) }
+    ensures stops { OwnsTaken window.now.shape rank.old taken.old.items → IfErr result (λ why. (home : ℕ) → named_by why ≡ names_rank home
+        → StopsAt window.now.shape (store_after rank.old.view.seen) writes.now taken.old.items taken.new.items rank.new.view home) }
     ensures names { IfErr result (λ why. (home : ℕ) × NamesRank home (named_by why)) }
     ensures refused { IfErr result (λ why. Explains window.now.shape rank.old.view rank.new.view why) }
     ensures follows { Follows rank.old.view rank.new.view }
@@ -120,7 +128,11 @@ fn plan_next<L: Law>(
     ensures more { (block : Place) → times block taken.old.items ≤ times block taken.new.items }
     ensures only { OnlyTaken rank.old.view rank.new.view }
     ensures owns { OwnsNoted rank.old.view rank.new.view taken.old.items taken.new.items }
+    ensures alone { OwnsTaken window.now.shape rank.old taken.old.items → OwnsTaken window.now.shape rank.new taken.new.items }
     ensures next { OnOk result (PlansNext window.now.shape writes.now at blocks taken.old.items taken.new.items plans.old.items plans.new.items) }
+    ensures full { OwnsTaken window.now.shape rank.old taken.old.items → IfErr result (IsFull window.now.shape at.rank rank.new.view) }
+    ensures short { IfErr result (λ why. named_by why ≡ names_rank at.rank → (words_at writes.now at ≢ None)
+        × FallsShort window.now.shape at blocks (length (content_of writes.now at)) taken.old.items taken.new.items) }
     ensures names { IfErr result (λ why. NamesRank at.rank (named_by why)) }
     ensures refused { IfErr result (λ why. Explains window.now.shape rank.old.view rank.new.view why) }
     ensures follows { Follows rank.old.view rank.new.view }
@@ -160,8 +172,12 @@ fn plan_one<L: Law>(
     ensures more { (block : Place) → times block taken.old.items ≤ times block taken.new.items }
     ensures only { OnlyTaken rank.old.view rank.new.view }
     ensures owns { OwnsNoted rank.old.view rank.new.view taken.old.items taken.new.items }
+    ensures alone { OwnsTaken window.now.shape rank.old taken.old.items → OwnsTaken window.now.shape rank.new taken.new.items }
     ensures object { IfOk result (λ plan. plan.at ≡ at) }
     ensures plan { IfOk result (λ plan. Plans window.now.shape blocks words taken.old.items taken.new.items plan) }
+    ensures full { OwnsTaken window.now.shape rank.old taken.old.items → IfErr result (IsFull window.now.shape at.rank rank.new.view) }
+    ensures short { IfErr result (λ why. named_by why ≡ names_rank at.rank
+        → FallsShort window.now.shape at blocks words taken.old.items taken.new.items) }
     ensures names { IfErr result (λ why. NamesRank at.rank (named_by why)) }
     ensures refused { IfErr result (λ why. Explains window.now.shape rank.old.view rank.new.view why) }
     ensures follows { Follows rank.old.view rank.new.view }
@@ -215,8 +231,12 @@ fn grow<L: Law>(
     ensures more { (block : Place) → times block taken.old.items ≤ times block taken.new.items }
     ensures only { OnlyTaken rank.old.view rank.new.view }
     ensures owns { OwnsNoted rank.old.view rank.new.view taken.old.items taken.new.items }
+    ensures alone { OwnsTaken window.now.shape rank.old taken.old.items → OwnsTaken window.now.shape rank.new taken.new.items }
     ensures grown { OnOk result (Grows home taken.old.items taken.new.items blocks.old blocks.new) }
-    ensures enough { OnOk result (count ≤ length blocks.new) }
+    ensures just { OnOk result (length blocks.new ≡ max (length blocks.old) count) }
+    ensures full { OwnsTaken window.now.shape rank.old taken.old.items → IfErr result (IsFull window.now.shape home rank.new.view) }
+    ensures short { IfErr result (λ why. named_by why ≡ names_rank home
+        → Grows home taken.old.items taken.new.items blocks.old blocks.new × (length blocks.new < count)) }
     ensures names { IfErr result (λ why. NamesRank home (named_by why)) }
     ensures refused { IfErr result (λ why. Explains window.now.shape rank.old.view rank.new.view why) }
     ensures follows { Follows rank.old.view rank.new.view }
@@ -245,8 +265,12 @@ fn take_into<L: Law>(
     ensures more { (block : Place) → times block taken.old.items ≤ times block taken.new.items }
     ensures only { OnlyTaken rank.old.view rank.new.view }
     ensures owns { OwnsNoted rank.old.view rank.new.view taken.old.items taken.new.items }
+    ensures alone { OwnsTaken window.now.shape rank.old taken.old.items → OwnsTaken window.now.shape rank.new taken.new.items }
     ensures grown { OnOk result (Grows home taken.old.items taken.new.items blocks.old blocks.new) }
-    ensures longer { OnOk result (length blocks.old < length blocks.new) }
+    ensures longer { OnOk result (length blocks.new ≡ length blocks.old + 1) }
+    ensures full { OwnsTaken window.now.shape rank.old taken.old.items → IfErr result (IsFull window.now.shape home rank.new.view) }
+    ensures short { IfErr result (λ why. named_by why ≡ names_rank home
+        → (taken.new.items ≡ taken.old.items) × (blocks.new ≡ blocks.old)) }
     ensures names { IfErr result (λ why. NamesRank home (named_by why)) }
     ensures refused { IfErr result (λ why. Explains window.now.shape rank.old.view rank.new.view why) }
     ensures follows { Follows rank.old.view rank.new.view }

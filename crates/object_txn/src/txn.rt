@@ -1,4 +1,4 @@
-ghost use Rattle.std.specs.Prelude.{◌≡◌, []};
+ghost use Rattle.std.specs.Prelude.{◌≡◌, true, false, []};
 ghost use Rattle.object_txn.specs.Tied.{IsNone};
 
 use object_moves::{HeldObjects, NotedChains};
@@ -10,6 +10,8 @@ use std::alloc::Global;
 /// or written, and the blocks that it took.
 #[derive(Drop)]
 pub struct Txn {
+    /// Whether no transaction has ended since the rank was handed over.
+    pub first: bool,
     pub phase: Phase,
     pub reads: Objects,
     pub writes: Objects,
@@ -19,11 +21,13 @@ pub struct Txn {
 }
 
 impl Txn {
-    /// No transaction. It takes no memory.
+    /// No transaction, and none has ended before. It takes no memory.
     pub(crate) fn none(alloc: Global) -> Txn
-        ensures { IsNone result }
+        ensures none { IsNone result }
+        ensures first { result.first ≡ true }
     {
         Txn {
+            first: true,
             phase: Phase::Idle,
             reads: Objects::new(alloc),
             writes: Objects::new(alloc),
@@ -37,8 +41,10 @@ impl Txn {
     pub(crate) fn end(&mut self)
         requires held { self.old.held ≡ [] }
         requires taken { self.old.taken.items ≡ [] }
-        ensures { IsNone self.new }
+        ensures none { IsNone self.new }
+        ensures later { self.new.first ≡ false }
     {
+        self.first = false;
         self.phase = Phase::Idle;
         self.reads.clear();
         self.writes.clear();

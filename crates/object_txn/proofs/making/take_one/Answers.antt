@@ -1,9 +1,11 @@
-use Rattle.std.proofs.Common.{◌<◌, ◌∷◌, ◌++◌, [], ap, ◌∙◌, subst, arith}
+use Rattle.std.proofs.Common.{◌<◌, ◌∷◌, ◌++◌, [], Err, sym, ap, ◌∙◌, subst, arith}
 use Rattle.rma_layout.specs.Shape.{Shape}
 use Rattle.window_rule.specs.View.{View}
 use Rattle.window_rule.specs.Pool.{MayBeFree}
 use Rattle.window_rule.specs.Spares.{HasSpares, IsNoSpare}
 use Rattle.block_pool.specs.Takes.{Refuses}
+use Rattle.block_pool.specs.Alone.{exchanges}
+use Rattle.object_txn.proofs.AloneFacts.{empty_by, few_on, never_worn, owns_none, owns_one, owns_still, room_by}
 use Rattle.object_txn.proofs.MakingFacts.{explains_busy, explains_empty, explains_worn, never_busy, owns_same, owns_taken, taken_is_new, taken_more}
 use Rattle.object_txn.proofs.making.take_one.Goals as goal
 
@@ -71,3 +73,62 @@ pub returns-in-Err-Worn-clause-owns : goal.returns-in-Err-Worn-clause-owns
 returns-in-Err-Worn-clause-owns g c =
     owns_same c.args.rank.now.view c.take.new.rank.view c.args.taken.now.items c.has_room.new.taken.items
     (ap (λ (v : View g.row.L-Note.Denot). v.private) c.in-Err-Worn.ensures.taken.unmoved) c.has_room.ensures.items
+
+pub returns-in-Ok-push-clause-alone : goal.returns-in-Ok-push-clause-alone
+returns-in-Ok-push-clause-alone g c = λ was.
+    owns_one c.args.window.now.shape c.args.home c.args.rank.now c.take.new.rank c.args.taken.now.items was c.take.ensures.follows c.take.ensures.only
+    c.take.result (c.take.ensures.alone was.alone) c.in-Ok.block c.in-Ok.is c.in-Ok.ensures.taken.free.on c.push.new.self.items
+    (c.in-Ok-push.ensures.items ∙ ap (λ l. l ++ c.in-Ok.block ∷ []) c.in_ok-has_room.ensures.items) c.in-Ok.ensures.taken.from
+
+pub returns-in-Ok-push-clause-room : goal.returns-in-Ok-push-clause-room
+returns-in-Ok-push-clause-room g c = λ was.
+    room_by c.args.window.now.shape c.args.home c.args.rank.now c.take.new.rank c.args.taken.now.items was c.take.ensures.follows c.take.ensures.only
+    c.take.result (c.take.ensures.alone was.alone) c.in-Ok.block c.in-Ok.is
+
+pub returns-in-Err-Empty-clause-alone : goal.returns-in-Err-Empty-clause-alone
+returns-in-Err-Empty-clause-alone g c = λ was.
+    owns_none c.args.window.now.shape c.args.home c.args.rank.now c.take.new.rank c.args.taken.now.items was c.take.ensures.follows c.take.ensures.only
+    c.take.result (c.take.ensures.alone was.alone) c.in-Err-Empty.ensures.taken.spares
+    (ap (λ (v : View g.row.L-Note.Denot). v.private) c.in-Err-Empty.ensures.taken.unmoved) (ap exchanges c.in-Err-Empty.is)
+    c.has_room.new.taken.items c.has_room.ensures.items
+
+pub returns-in-Err-Empty-clause-unmoved : goal.returns-in-Err-Empty-clause-unmoved
+returns-in-Err-Empty-clause-unmoved g c = ap (λ (v : View g.row.L-Note.Denot). v.private) c.in-Err-Empty.ensures.taken.unmoved
+
+pub returns-in-Err-PoolBusy-clause-alone : goal.returns-in-Err-PoolBusy-clause-alone
+returns-in-Err-PoolBusy-clause-alone g c = λ was.
+    owns_none c.args.window.now.shape c.args.home c.args.rank.now c.take.new.rank c.args.taken.now.items was c.take.ensures.follows c.take.ensures.only
+    c.take.result (c.take.ensures.alone was.alone) c.in-Err-PoolBusy.ensures.taken.spares
+    (ap (λ (v : View g.row.L-Note.Denot). v.private) c.in-Err-PoolBusy.ensures.taken.unmoved) (ap exchanges c.in-Err-PoolBusy.is)
+    c.has_room.new.taken.items c.has_room.ensures.items
+
+pub returns-in-Err-PoolBusy-clause-unmoved : goal.returns-in-Err-PoolBusy-clause-unmoved
+returns-in-Err-PoolBusy-clause-unmoved g c = ap (λ (v : View g.row.L-Note.Denot). v.private) c.in-Err-PoolBusy.ensures.taken.unmoved
+
+pub returns-in-Err-Worn-clause-alone : goal.returns-in-Err-Worn-clause-alone
+returns-in-Err-Worn-clause-alone g c = λ was.
+    owns_none c.args.window.now.shape c.args.home c.args.rank.now c.take.new.rank c.args.taken.now.items was c.take.ensures.follows c.take.ensures.only
+    c.take.result (c.take.ensures.alone was.alone) c.in-Err-Worn.ensures.taken.spares
+    (ap (λ (v : View g.row.L-Note.Denot). v.private) c.in-Err-Worn.ensures.taken.unmoved) (ap exchanges c.in-Err-Worn.is)
+    c.has_room.new.taken.items c.has_room.ensures.items
+
+pub returns-in-Err-Worn-clause-unmoved : goal.returns-in-Err-Worn-clause-unmoved
+returns-in-Err-Worn-clause-unmoved g c = ap (λ (v : View g.row.L-Note.Denot). v.private) c.in-Err-Worn.ensures.taken.unmoved
+
+pub returns-in-Err-Empty-clause-full : goal.returns-in-Err-Empty-clause-full
+returns-in-Err-Empty-clause-full g c = λ was _.
+    empty_by c.args.window.now.shape c.args.home c.args.rank.now c.take.new.rank c.args.taken.now.items was c.take.ensures.follows c.take.ensures.only
+    c.take.result (c.take.ensures.alone was.alone) c.in-Err-Empty.head (c.in-Err-Empty.is ∙ ap Err c.in-Err-Empty.field-0-is)
+    (ap (λ (v : View g.row.L-Note.Denot). v.private) c.in-Err-Empty.ensures.taken.unmoved)
+
+pub returns-in-Err-PoolBusy-clause-full : goal.returns-in-Err-PoolBusy-clause-full
+returns-in-Err-PoolBusy-clause-full g c = λ was _.
+    absurd (never_busy c.take.result _ c.in-Err-PoolBusy.loaded c.in-Err-PoolBusy.seen c.in-Err-PoolBusy.is c.in-Err-PoolBusy.field-0-is
+    (c.take.ensures.alone was.alone).idle)
+
+pub returns-in-Err-Worn-clause-full : goal.returns-in-Err-Worn-clause-full
+returns-in-Err-Worn-clause-full g c = λ was _.
+    absurd (never_worn c.args.window.now.shape c.args.home c.args.rank.now c.take.new.rank c.args.taken.now.items was c.take.ensures.follows c.take.ensures.only
+    c.take.result (c.take.ensures.alone was.alone) c.in-Err-Worn.head (c.in-Err-Worn.is ∙ ap Err c.in-Err-Worn.field-0-is) c.requires.home
+    (omega (arith, few_on c.args.window.now.shape c.args.home c.args.taken.now.items c.requires.taken.once c.requires.taken.blocks,
+    c.keeps_ranges.ensures.blocks, ap (λ s. s.blocks) c.geometry.ensures)))

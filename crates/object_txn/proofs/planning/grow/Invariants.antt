@@ -1,6 +1,7 @@
-use Rattle.std.proofs.Common.{◌≡◌, ◌-◌, length}
+use Rattle.std.proofs.Common.{◌≡◌, ◌-◌, ◌≤◌, max, length}
 use Rattle.window_rule.specs.Trails.{Follows}
 use Rattle.block_pool.specs.Moves.{OnlyTaken}
+use Rattle.object_txn.specs.Alone.{OwnsTaken}
 use Rattle.object_txn.specs.Moves.{OwnsNoted}
 use Rattle.object_txn.specs.Planning.{Grows}
 use Rattle.object_txn.specs.Tied.{HasTaken}
@@ -12,6 +13,8 @@ invariant-loop-rank g l = record {
   taken : HasTaken l.window.shape l.rank.view.private l.rank.spares l.taken.items;
   only : OnlyTaken l.initial.rank.view l.rank.view;
   owns : OwnsNoted l.initial.rank.view l.rank.view l.initial.taken.items l.taken.items;
+  alone : OwnsTaken l.window.shape l.initial.rank l.initial.taken.items → OwnsTaken l.window.shape l.rank l.taken.items;
+  most : length l.blocks ≤ max (length l.initial.blocks) l.count;
   grown : Grows l.home l.initial.taken.items l.taken.items l.initial.blocks l.blocks;
   follows : Follows l.initial.rank.view l.rank.view;
 }
