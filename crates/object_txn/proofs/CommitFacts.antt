@@ -288,6 +288,7 @@ record Steady : Type 0 where
   refusals : List Refusal
   misses : List Miss
   looks : List Look
+  bounds : List (ℕ × ℕ)
   takes : ℕ
 
 abbrev steady_of : {N : Type 0} → View N → Steady
@@ -298,6 +299,7 @@ steady_of view = record {
   refusals = view.refusals;
   misses = view.misses;
   looks = view.looks;
+  bounds = view.bounds;
   takes = view.takes;
 }
 
@@ -312,6 +314,9 @@ module _ {N : Type 0} (entry : Entry N) (first one two three four : View N) (num
 
   pub gate_stays : four.gate ≡ first.gate
   gate_stays = ap (λ (s : Steady). s.gate) steady
+
+  pub bounds_stay : four.bounds ≡ first.bounds
+  bounds_stay = ap (λ (s : Steady). s.bounds) steady
 
   pub clean_now : three.dirty ≡ []
   clean_now = ap (λ (v : View N). v.dirty) commit.view

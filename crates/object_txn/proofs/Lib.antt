@@ -17,3 +17,4 @@ pub mod EntryFacts
 pub mod MadeGone
 pub mod AloneFacts
 pub mod GrownFacts
+pub mod FreedFacts

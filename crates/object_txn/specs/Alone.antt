@@ -31,6 +31,14 @@ abbrev pub HasTagsFor : {N : Type 0} → Shape → List Place → View N → Typ
 HasTagsFor shape blocks view = (home : ℕ) → home < shape.ranks
     → tag_bound view.bounds home + count_on home blocks < 2 ^ 44
 
+-- blocks are given back, and those that are left of them aren't yet: there is no new spare, and each raised a tag by 1 at most
+pub record FreesBut {N : Type 0} (shape : Shape) (all left : List Place)
+    (before after : RankModel N) : Type 0 where
+  pub spares : after.spares ≡ before.spares
+  pub tags : (home : ℕ) → home < shape.ranks
+      → tag_bound after.view.bounds home + count_on home left
+      ≤ tag_bound before.view.bounds home + count_on home all
+
 -- a rank that is alone, with nothing detached and no spare, whose own blocks are just those that were taken. Each of them
 -- raised a tag by 1, from below 2^43
 pub record OwnsTaken {N : Type 0} (shape : Shape) (rank : RankModel N) (taken : List Place) : Type 0 where

@@ -1,12 +1,14 @@
-ghost use Rattle.std.specs.Prelude.{◌≡◌, ◌≢◌, ◌+◌, ◌<◌, ◌≤◌, ◌%◌, List, [], drop, length, None};
+ghost use Rattle.std.specs.Prelude.{◌≡◌, ◌≢◌, ◌+◌, ◌<◌, ◌≤◌, ◌%◌, List, [], drop, length, None, false};
 ghost use Rattle.rma_layout.specs.Placement.{Place};
 ghost use Rattle.window_rule.specs.Commit.{entry_by};
 ghost use Rattle.window_rule.specs.Locks.{hold_of};
 ghost use Rattle.window_rule.specs.Partition.{places_of, times};
+ghost use Rattle.window_rule.specs.RightsHold.{IsAlone};
 ghost use Rattle.window_rule.specs.Trails.{Follows};
 ghost use Rattle.window_rule.specs.Truths.{IsTrueView};
 ghost use Rattle.block_pool.specs.Gives.{IsForUse, OnlyBlocks};
 ghost use Rattle.object_store.specs.declared.phase.Phase.TheVariants.{Writing};
+ghost use Rattle.object_txn.specs.Alone.{FreesBut, HasTagsFor};
 ghost use Rattle.object_txn.specs.Committing.{Enters};
 ghost use Rattle.object_txn.specs.Endings.{GivesAll, GivesLeft};
 ghost use Rattle.object_txn.specs.Planning.{AreAllPlans};
@@ -46,6 +48,8 @@ pub(crate) fn write_planned<L: Law, C: Carries<L>>(
     ensures entry { Enters (entry_by rank.old.view txn.now.reads txn.now.writes (C.note note.now)) rank.old.view result rank.new.view }
     ensures locks { HasLocks window.now.shape rank.new.view.locks txn.now.held }
     ensures gate { rank.new.view.gate ≡ gate_of txn.now.phase }
+    ensures spares { rank.new.spares ≡ rank.old.spares }
+    ensures bounds { rank.new.view.bounds ≡ rank.old.view.bounds }
     ensures clean { rank.new.view.dirty ≡ [] }
     ensures closed { rank.new.view.stamps.opened ≡ [] }
     ensures exchanged { (block : Place) → times block (places_of rank.new.view.private) + taken_for block plans.now ≡ times block (places_of rank.old.view.private) + times block (surplus_in plans.now) }
@@ -78,6 +82,9 @@ pub(crate) fn leave_committed<L: Law>(
     ensures ended { IsNone txn.new }
     ensures free { IsFree rank.new.view }
     ensures given { GivesLeft (surplus_in plans.now) rank.old rank.new }
+    ensures alone { IsAlone window.now.shape rank.old.view → HasTagsFor window.now.shape (surplus_in plans.now) rank.old.view
+        → rank.new.spares ≡ rank.old.spares }
+    ensures later { txn.new.first ≡ false }
     ensures seen { rank.new.view.seen ≡ rank.old.view.seen }
     ensures truths { IsTrueView L.fits window.now.shape rank.new.view }
     ensures follows { Follows rank.old.view rank.new.view }
@@ -99,6 +106,8 @@ fn give_surplus<L: Law>(window: &Window<L>, rank: &mut Rank<L>, plans: &[Plan])
     ensures window { rank.new.window ≡ rank.old.window }
     ensures view { OnlyBlocks rank.old.view rank.new.view }
     ensures given { GivesAll (surplus_in plans.now) rank.old rank.new }
+    ensures alone { IsAlone window.now.shape rank.old.view → HasTagsFor window.now.shape (surplus_in plans.now) rank.old.view
+        → FreesBut window.now.shape (surplus_in plans.now) [] rank.old rank.new }
     ensures follows { Follows rank.old.view rank.new.view }
 {
     for plan in plans {
@@ -117,6 +126,8 @@ fn give_behind<L: Law>(window: &Window<L>, rank: &mut Rank<L>, blocks: &Blocks, 
     ensures stay { (other : Place) → times other (drop used blocks.now) ≡ 0 → IsForUse window.now.shape rank.old other
         → IsForUse window.now.shape rank.new other }
     ensures given { GivesAll (drop used blocks.now) rank.old rank.new }
+    ensures alone { IsAlone window.now.shape rank.old.view → HasTagsFor window.now.shape (drop used blocks.now) rank.old.view
+        → FreesBut window.now.shape (drop used blocks.now) [] rank.old rank.new }
     ensures follows { Follows rank.old.view rank.new.view }
 {
     for index in used..blocks.len() as u64 {

@@ -1,12 +1,14 @@
-ghost use Rattle.std.specs.Prelude.{◌≡◌, ◌≢◌, [], None, ◌<◌, ◌≤◌};
+ghost use Rattle.std.specs.Prelude.{◌≡◌, ◌≢◌, [], None, ◌<◌, ◌≤◌, false};
 ghost use Rattle.rma_layout.specs.Placement.{Place};
 ghost use Rattle.window_rule.specs.View.{Outside};
 ghost use Rattle.window_rule.specs.Gate.{entered};
 ghost use Rattle.window_rule.specs.Locks.{hold_of};
+ghost use Rattle.window_rule.specs.RightsHold.{IsAlone};
 ghost use Rattle.window_rule.specs.Trails.{Follows};
 ghost use Rattle.window_rule.specs.Truths.{IsTrueView};
 ghost use Rattle.block_pool.specs.Gives.{OnlyBlocks};
 ghost use Rattle.object_store.specs.declared.phase.Phase.TheVariants.{Writing};
+ghost use Rattle.object_txn.specs.Alone.{FreesBut, HasTagsFor};
 ghost use Rattle.object_txn.specs.Endings.{GivesBack, GivesEach};
 ghost use Rattle.object_txn.specs.State.{gate_of};
 ghost use Rattle.object_txn.specs.Tied.{HasTaken, IsFree, IsNone, IsTied};
@@ -29,6 +31,9 @@ pub(crate) fn end_all<L: Law>(window: &Window<L>, rank: &mut Rank<L>, txn: &mut 
     ensures given { GivesBack txn.old.taken.items rank.old rank.new }
     ensures seen { rank.new.view.seen ≡ rank.old.view.seen }
     ensures spares { txn.old.phase ≢ Writing → rank.new.spares ≡ rank.old.spares }
+    ensures alone { IsAlone window.now.shape rank.old.view → HasTagsFor window.now.shape txn.old.taken.items rank.old.view
+        → rank.new.spares ≡ rank.old.spares }
+    ensures later { txn.new.first ≡ false }
     ensures truths { IsTrueView L.fits window.now.shape rank.new.view }
     ensures follows { Follows rank.old.view rank.new.view }
 {
@@ -65,6 +70,8 @@ fn give_all<L: Law>(window: &Window<L>, rank: &mut Rank<L>, taken: &mut Vec<DPtr
     ensures given { GivesEach taken.old.items rank.old rank.new }
     ensures view { OnlyBlocks rank.old.view rank.new.view }
     ensures spares { taken.old.items ≡ [] → rank.new.spares ≡ rank.old.spares }
+    ensures alone { IsAlone window.now.shape rank.old.view → HasTagsFor window.now.shape taken.old.items rank.old.view
+        → FreesBut window.now.shape taken.old.items [] rank.old rank.new }
     ensures follows { Follows rank.old.view rank.new.view }
 {
     while let Some(block) = taken.pop() {

@@ -37,6 +37,8 @@ pub(crate) fn read_at<L: Law>(
     ensures writes { txn.new.writes ≡ txn.old.writes }
     ensures taken { txn.new.taken ≡ txn.old.taken }
     ensures private { rank.new.view.private ≡ rank.old.view.private }
+    ensures bounds { rank.new.view.bounds ≡ rank.old.view.bounds }
+    ensures first { txn.new.first ≡ txn.old.first }
     ensures spares { rank.new.spares ≡ rank.old.spares }
     ensures reads { IfOk result (λ words. Reads at rank.new.view txn.old txn.new words) }
     ensures names { IfErr result (λ why. (named_by why ≡ names_nothing) ⊎ (named_by why ≡ names_object at)) }
@@ -72,6 +74,8 @@ fn read_committed<L: Law>(
     ensures writes { txn.new.writes ≡ txn.old.writes }
     ensures taken { txn.new.taken ≡ txn.old.taken }
     ensures private { rank.new.view.private ≡ rank.old.view.private }
+    ensures bounds { rank.new.view.bounds ≡ rank.old.view.bounds }
+    ensures first { txn.new.first ≡ txn.old.first }
     ensures spares { rank.new.spares ≡ rank.old.spares }
     ensures reads { IfOk result (λ words. Reads at rank.new.view txn.old txn.new words) }
     ensures names { IfErr result (λ why. (named_by why ≡ names_nothing) ⊎ (named_by why ≡ names_object at)) }

@@ -44,6 +44,8 @@ pub(crate) fn write_at<L: Law>(
     ensures writes { OnOk result (txn.new.writes ≡ with_words txn.old.writes at words) }
     ensures taken { txn.new.taken ≡ txn.old.taken }
     ensures private { rank.new.view.private ≡ rank.old.view.private }
+    ensures bounds { rank.new.view.bounds ≡ rank.old.view.bounds }
+    ensures first { txn.new.first ≡ txn.old.first }
     ensures spares { rank.new.spares ≡ rank.old.spares }
     ensures names { IfErr result (λ why. (named_by why ≡ names_nothing) ⊎ (named_by why ≡ names_object at)) }
     ensures refused { IfErr result (λ why. Explains window.now.shape rank.old.view rank.new.view why) }
@@ -72,6 +74,8 @@ fn note_chain<L: Law>(
     ensures noted { OnOk result (blocks_of txn.new.chains at ≢ None) }
     ensures same { txn.new ≡ record txn.old { chains = txn.new.chains } }
     ensures private { rank.new.view.private ≡ rank.old.view.private }
+    ensures bounds { rank.new.view.bounds ≡ rank.old.view.bounds }
+    ensures first { txn.new.first ≡ txn.old.first }
     ensures spares { rank.new.spares ≡ rank.old.spares }
     ensures follows { Follows rank.old.view rank.new.view }
 {

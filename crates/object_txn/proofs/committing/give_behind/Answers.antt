@@ -5,7 +5,11 @@ use Rattle.window_rule.specs.Partition.{times}
 use Rattle.window_rule.specs.View.{View}
 use Rattle.window_rule.specs.Locks.{hold_of}
 use Rattle.window_rule.proofs.Trails.{follows_trans}
+use Rattle.window_rule.specs.RoomHolds.{count_on}
+use Rattle.block_pool.proofs.MovesKept.{alone_still}
+use Rattle.object_txn.specs.Alone.{FreesBut}
 use Rattle.object_txn.specs.Tied.{HasTaken}
+use Rattle.object_txn.proofs.FreedFacts.{counted_first, frees_more}
 use Rattle.object_txn.proofs.EndingFacts.{blocks-then, given_view}
 use Rattle.object_txn.proofs.SurplusFacts.{at_there, behind_at, one_stays, rest_taken}
 use Rattle.object_txn.proofs.committing.give_behind.Goals as goal
@@ -46,6 +50,10 @@ loop-index-preserved g c =
       view = blocks-then c.args.rank.now.view was.view now.view old.view (given_view block was now c.give.ensures.given);
       stay = λ other out for_use. c.give.ensures.stay other (one_stays block other (omega (arith, fewer other out))) (old.stay other out for_use);
       among = λ other out. omega (arith, fewer other out);
+      alone = λ alone low. frees_more shape (drop c.args.used c.args.blocks.now) (drop c.loop-index.index c.args.blocks.now) more block
+          c.args.rank.now was now low (old.alone alone low) (old.behind.blocks block (at_there c.args.blocks.now c.loop-index.index block left)).0
+          (λ home. ap (count_on home) left ∙ counted_first home block more)
+          (c.give.ensures.alone (alone_still shape c.args.rank.now.view was.view old.follows alone));
       given = (
         block ∷ old.given.0,
         λ other. omega (arith, old.given.1 other, ap (times other) left),
@@ -62,3 +70,9 @@ returns-clause-given g c =
       are = λ other. omega (arith, old.given.1 other, ap (times other) gone);
       given = old.given.2;
     }
+
+pub returns-clause-alone : goal.returns-clause-alone
+returns-clause-alone g c = λ alone low.
+    let gone : drop c.loop-index.index c.args.blocks.now ≡ [] = drop_all c.loop-index.index c.args.blocks.now (omega (arith, c.loop-index-test.false, c.len-index-end.ensures)) in
+    subst (λ (l : List Place). FreesBut c.args.window.now.shape (drop c.args.used c.args.blocks.now) l c.args.rank.now c.loop-index.rank) gone
+    (c.loop-index.invariant.alone alone low)

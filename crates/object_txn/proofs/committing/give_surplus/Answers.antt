@@ -1,10 +1,15 @@
-use Rattle.std.proofs.Common.{[], ◌≡◌, ◌+◌, ◌++◌, arith, List, drop, ap, ◌∙◌, subst}
+use Rattle.std.proofs.Common.{ℕ, [], ◌≡◌, ◌+◌, ◌++◌, arith, List, drop, ap, ◌∙◌, subst}
 use Rattle.std.proofs.lemmas.List.{drop_all}
 use Rattle.window_rule.specs.View.{View}
 use Rattle.window_rule.specs.Locks.{hold_of}
 use Rattle.window_rule.proofs.Trails.{follows_trans}
 use Rattle.window_rule.specs.Partition.{times}
 use Rattle.window_rule.proofs.JoinSteps.{times-append}
+use Rattle.window_rule.specs.RoomHolds.{count_on}
+use Rattle.window_rule.proofs.Removals.{on-both}
+use Rattle.block_pool.proofs.MovesKept.{alone_still}
+use Rattle.object_txn.specs.Alone.{FreesBut}
+use Rattle.object_txn.proofs.FreedFacts.{frees_then, tags_left}
 use Rattle.object_txn.specs.declared.plan.Plan.{Plan}
 use Rattle.object_txn.specs.Plans.{surplus_in}
 use Rattle.object_txn.specs.Tied.{HasTaken}
@@ -40,6 +45,13 @@ loop-plan-preserved g c =
       surplus = rest_taken shape (drop plan.used plan.blocks) (surplus_in more) was now c.give_behind.ensures.stay
           (subst (λ (l : List Plan). HasTaken shape was.view.private was.spares (surplus_in l)) left old.surplus);
       view = blocks-then c.args.rank.now.view was.view now.view old.view c.give_behind.ensures.view;
+      alone = λ alone low.
+          let counted = λ (home : ℕ). ap (λ (l : List Plan). count_on home (surplus_in l)) left ∙ on-both home (drop plan.used plan.blocks) (surplus_in more) in
+          frees_then shape (surplus_in c.args.plans.now) (surplus_in (drop c.loop-plan.plan-index c.args.plans.now)) (drop plan.used plan.blocks) (surplus_in more)
+          c.args.rank.now was now counted (old.alone alone low)
+          (c.give_behind.ensures.alone (alone_still shape c.args.rank.now.view was.view old.follows alone)
+          (tags_left shape (surplus_in c.args.plans.now) (surplus_in (drop c.loop-plan.plan-index c.args.plans.now)) (drop plan.used plan.blocks) (surplus_in more)
+          c.args.rank.now was counted low (old.alone alone low)));
       given = let all = c.give_behind.ensures.given in (
         all.order ++ old.given.0,
         λ other. omega (
@@ -63,3 +75,9 @@ returns-clause-given g c =
       are = λ other. omega (arith, old.given.1 other, ap (λ (l : List Plan). times other (surplus_in l)) gone);
       given = old.given.2;
     }
+
+pub returns-clause-alone : goal.returns-clause-alone
+returns-clause-alone g c = λ alone low.
+    let gone : drop c.loop-plan.plan-index c.args.plans.now ≡ [] = drop_all c.loop-plan.plan-index c.args.plans.now (omega (arith, c.loop-plan-test.false, c.loop-plan.auto.plan-index-end)) in
+    subst (λ (l : List Plan). FreesBut c.args.window.now.shape (surplus_in c.args.plans.now) (surplus_in l) c.args.rank.now c.loop-plan.rank) gone
+    (c.loop-plan.invariant.alone alone low)

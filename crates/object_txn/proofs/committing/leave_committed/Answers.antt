@@ -1,9 +1,12 @@
-use Rattle.std.proofs.Common.{◌≡◌, ◌∙◌, List, sym, ap, subst}
+use Rattle.std.proofs.Common.{arith, ◌≡◌, ◌∙◌, List, sym, ap, subst}
 use Rattle.window_rule.specs.View.{View, Locks, Outside, OwnBlock}
 use Rattle.window_rule.specs.Locks.{hold_of}
 use Rattle.window_rule.specs.Spares.{SpareEnds}
 use Rattle.block_pool.specs.Gives.{OnlyBlocks}
 use Rattle.fabric.specs.Window.{RankModel}
+use Rattle.window_rule.proofs.Trails.{follows_trans}
+use Rattle.block_pool.proofs.MovesKept.{alone_still}
+use Rattle.object_txn.specs.Alone.{tag_bound}
 use Rattle.object_txn.specs.Endings.{GivesEach}
 use Rattle.object_txn.specs.Plans.{surplus_in}
 use Rattle.object_txn.specs.Tied.{HasTaken}
@@ -52,3 +55,13 @@ returns-clause-given g c = record {
         c.truths.ensures.window c.truths.ensures.view c.truths.ensures.spares)) c.give_surplus.ensures.given.given;
   };
 }
+
+pub returns-clause-alone : goal.returns-clause-alone
+returns-clause-alone g c = λ alone low.
+    let left = c.leave_gate.new.rank in
+    let bounds = ap (λ (v : View g.row.L-Note.Denot). v.bounds) c.leave_gate.ensures.view ∙ ap (λ (v : View g.row.L-Note.Denot). v.bounds) c.leave_all.ensures.left.only in
+    let follows = follows_trans c.args.rank.now.view c.leave_all.new.rank.view left.view c.leave_all.ensures.follows c.leave_gate.ensures.follows in
+    c.truths.ensures.spares
+    ∙ ((c.give_surplus.ensures.alone (alone_still c.args.window.now.shape c.args.rank.now.view left.view follows alone)
+    (λ home below. omega (arith, ap (λ b. tag_bound b home) bounds, low home below))).spares
+    ∙ (c.leave_gate.ensures.spares ∙ c.leave_all.ensures.spares))

@@ -8,7 +8,7 @@ use Rattle.window_rule.specs.Spares.{IsNoSpare, SpareEnds}
 use Rattle.object_txn.specs.Committing.{Enters}
 use Rattle.object_txn.specs.Plans.{surplus_in}
 use Rattle.object_txn.specs.Tied.{HasLocks}
-use Rattle.object_txn.proofs.CommitFacts.{all_marked, dirt_there, enters, gate_stays, inside_by, locks_stay, planned_is, planned_written, room_is, surplus_is, written_is}
+use Rattle.object_txn.proofs.CommitFacts.{all_marked, bounds_stay, dirt_there, enters, gate_stays, inside_by, locks_stay, planned_is, planned_written, room_is, surplus_is, written_is}
 use Rattle.object_txn.proofs.StampFacts.{to_close}
 use Rattle.object_txn.proofs.committing.write_planned.Goals as goal
 
@@ -80,6 +80,12 @@ returns-clause-locks g c =
     ∙ locks_stay _ c.args.rank.now.view c.open_all.new.rank.view c.rewrite_all.new.rank.view c.place_entry-number.new.rank.view c.close_all.new.rank.view c.place_entry-number.result
     c.open_all.ensures.only c.rewrite_all.ensures.only c.place_entry-number.ensures.placed c.close_all.ensures.only in
     subst (λ (l : Locks). HasLocks c.args.window.now.shape l c.args.txn.now.held) (sym same) c.requires.tied.locks
+
+pub returns-clause-bounds : goal.returns-clause-bounds
+returns-clause-bounds g c =
+    ap (λ (v : View g.row.L-Note.Denot). v.bounds) c.truths.ensures.view
+    ∙ bounds_stay _ c.args.rank.now.view c.open_all.new.rank.view c.rewrite_all.new.rank.view c.place_entry-number.new.rank.view c.close_all.new.rank.view c.place_entry-number.result
+    c.open_all.ensures.only c.rewrite_all.ensures.only c.place_entry-number.ensures.placed c.close_all.ensures.only
 
 pub returns-clause-gate : goal.returns-clause-gate
 returns-clause-gate g c =

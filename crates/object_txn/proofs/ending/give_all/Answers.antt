@@ -1,5 +1,8 @@
 use Rattle.std.proofs.Common.{◌≡◌, ◌∷◌, ◌++◌, List, [], length, ap, sym, ◌∙◌, arith, refl, rules, append-nil, append_assoc, subst}
 use Rattle.rma_layout.specs.Placement.{Place}
+use Rattle.block_pool.proofs.MovesKept.{alone_still}
+use Rattle.object_txn.specs.Alone.{FreesBut}
+use Rattle.object_txn.proofs.FreedFacts.{counted_last, frees_more, frees_none}
 use Rattle.object_txn.specs.Endings.{GivesEach}
 use Rattle.window_rule.specs.View.{View}
 use Rattle.window_rule.specs.Locks.{hold_of}
@@ -30,6 +33,11 @@ loop-block-preserved g c =
       view = blocks-then c.args.rank.now.view c.loop-block.rank.view c.give.new.rank.view old.view given;
       none = λ none. absurd (omega (arith, ap length (old.none none), fewer c.loop-block.taken.items c.pop.new.self.items _ c.in-Some.ensures.items));
       spares = λ none. absurd (omega (arith, ap length (old.none none), fewer c.loop-block.taken.items c.pop.new.self.items _ c.in-Some.ensures.items));
+      alone = λ alone low. frees_more c.args.window.now.shape c.args.taken.now.items c.loop-block.taken.items c.pop.new.self.items c.in-Some.block
+          c.args.rank.now c.loop-block.rank c.give.new.rank low (old.alone alone low)
+          (old.taken.blocks _ (last_there c.loop-block.taken.items c.pop.new.self.items _ c.in-Some.ensures.items)).0
+          (λ home. counted_last home c.loop-block.taken.items c.pop.new.self.items c.in-Some.block c.in-Some.ensures.items)
+          (c.give.ensures.alone (alone_still c.args.window.now.shape c.args.rank.now.view c.loop-block.rank.view old.follows alone));
       given = (
         c.in-Some.block ∷ old.given.0,
         old.given.1 ∙ (ap (λ l. l ++ old.given.0) c.in-Some.ensures.items ∙ append_assoc c.pop.new.self.items (c.in-Some.block ∷ []) old.given.0),
@@ -50,6 +58,7 @@ loop-block-init g c = record {
   view = refl;
   none = λ none. none;
   spares = λ _. refl;
+  alone = λ alone low. frees_none c.args.window.now.shape c.args.taken.now.items c.args.rank.now;
   given = ([], sym (append-nil c.args.taken.now.items), refl);
   follows = goes_on-refl (trail_of c.args.rank.now.view);
 }
@@ -60,3 +69,10 @@ returns-clause-given g c =
     let gone : c.pop.new.self.items ≡ [] = search rules in
     let none : c.loop-block.taken.items ≡ [] = c.in_default.ensures.items ∙ (append-nil c.pop.new.self.items ∙ gone) in
     subst (λ (l : List Place). GivesEach l c.args.rank.now c.loop-block.rank) (sym (old.given.1 ∙ ap (λ l. l ++ old.given.0) none)) old.given.2
+
+pub returns-clause-alone : goal.returns-clause-alone
+returns-clause-alone g c = λ alone low.
+    let gone : c.pop.new.self.items ≡ [] = search rules in
+    let none : c.loop-block.taken.items ≡ [] = c.in_default.ensures.items ∙ (append-nil c.pop.new.self.items ∙ gone) in
+    subst (λ (l : List Place). FreesBut c.args.window.now.shape c.args.taken.now.items l c.args.rank.now c.loop-block.rank) none
+    (c.loop-block.invariant.alone alone low)
