@@ -45,7 +45,7 @@ untied : {place object : Place} → eq_by_cmp place_cmp place object ≡ false �
 untied {place} {object} apart here = clash (subst (λ p. eq_by_cmp place_cmp place p ≡ false) here apart) (place_ties_itself place)
   where
     clash : {b : Bool} → b ≡ false → b ≡ true → ⊥
-    clash no yes = cc
+    clash off on = cc
 
 module _ (shape : Shape) (store before after : Contents) (ordered : IsByRisingObject before) (ordered_after : IsByRisingObject after) (object : Place)
     (elsewhere : (place : Place) → object ≢ place → words_at after place ≡ words_at before place) where
