@@ -50,8 +50,7 @@ use Rattle.graph_law.proofs.Counting.{makes_one}
 use Rattle.graph_law.proofs.Doing.{is_there, made_where_named}
 use Rattle.graph_law.proofs.Looking.{agrees_still, bucket_reached, left_applied}
 use Rattle.graph_law.proofs.Writing.{change_does}
-use Rattle.graph_vertices.proofs.Looking.{is_led}
-use Rattle.graph_vertices.proofs.VertexHere.{agrees_before}
+use Rattle.graph_changes.proofs.Temp.{is_led, agrees_before}
 use Rattle.graph_changes.proofs.NewVertex.{found_here, new_is_fresh, new_vertex_change, touched_by}
 
 -- ---- how the call ends
@@ -87,7 +86,7 @@ module _ (shape : Shape) (g : Graph) (id : ℕ) where
 -- ---- how many vertices a bucket leads to
 
 count-with_at : {X : Type 0} (p : ℕ → Bool) (k : ℕ) (x : X) (es : Map ℕ X) → p k ≡ true → at es k ≡ None → count_by (λ e. p e.0) (with_at es k x) ≡ count_by (λ e. p e.0) es + 1
-count-with_at p k x [] passes absent = omega (arith, sum_by-cons (λ (e : ℕ × X). cond (p e.0) 1 0) (k, x) [], ap (λ b. cond b 1 0) passes)
+count-with_at {X} p k x [] passes absent = omega (arith, sum_by-cons (λ (e : ℕ × X). cond (p e.0) 1 0) (k, x) [], ap (λ b. cond b 1 0) passes)
 count-with_at {X} p k x (e ∷ es) passes absent =
     elim (nat_cmp k e.0) as (λ o. cond (is_eq o) (Some e.1) (at es k) ≡ None → count_by (λ e. p e.0) (by_order o ((k, x) ∷ e ∷ es) ((e.0, x) ∷ es) (e ∷ with_at es k x)) ≡ count_by (λ e. p e.0) (e ∷ es) + 1) [
       | Less ↦ λ _. omega (arith, sum_by-cons (λ (e : ℕ × X). cond (p e.0) 1 0) (k, x) (e ∷ es), ap (λ b. cond b 1 0) passes)
@@ -113,18 +112,21 @@ own_bucket shape id =
     let place = bucket_of shape id in
     and_from (place.rank == place.rank) (place.block == place.block) (eq-eqb place.rank place.rank refl) (eq-eqb place.block place.block refl)
 
-module _ {id : ℕ} {old found : StoreState Noted} (ranges : IsInRange old.shape) where
+module _ {id : ℕ} {old found : StoreState Noted} {place : Option Place} (ranges : IsInRange old.shape) (finds : Finds id old found place) where
   led : (store : Contents) (g : Graph) (is : Represents old.shape (overlay store old.writes) g) → BucketsLead old.shape (overlay store old.writes) is.vertices
   led store g is = represents_leads old.shape (overlay store old.writes) g is ranges
 
-  pub exists_applied : {object : Place} → IsSound Fits found → Reaches (IsBucketFor id old.shape) (λ _. ⊥) old found → Finds id old found (Some object) → AppliesCall (VertexCall id) old found Exists
-  exists_applied sound reaches finds = left_applied finds.looks sound
-      (λ store g is agrees. ends_where_there old.shape g id (sym (is_led is id) ∙ ap is_some (sym (finds.answer store is.vertices agrees (led store g is)))))
+  led_to : (store : Contents) (g : Graph) (is : Represents old.shape (overlay store old.writes) g) → Agrees found.reads store → at is.vertices id ≡ place
+  led_to store g is agrees = sym (finds.answer store is.vertices agrees (led store g is))
+
+  pub exists_applied : is_some place ≡ true → IsSound Fits found → Reaches (IsBucketFor id old.shape) (λ _. ⊥) old found → AppliesCall (VertexCall id) old found Exists
+  exists_applied there sound reaches = left_applied finds.looks sound
+      (λ store g is agrees. ends_where_there old.shape g id (sym (is_led is id) ∙ (ap is_some (led_to store g is agrees) ∙ there)))
       (λ store g is agrees place. elim (reaches.reads place) [ inl here ↦ inl (reached_bucket g id ranges is place here) | inr unread ↦ inr unread ])
 
-  module _ (finds : Finds id old found None) where
+  module _ (none : is_some place ≡ false) where
     no_object : (store : Contents) (g : Graph) (is : Represents old.shape (overlay store old.writes) g) → Agrees found.reads store → at is.vertices id ≡ None
-    no_object store g is agrees = sym (finds.answer store is.vertices agrees (led store g is))
+    no_object store g is agrees = led_to store g is agrees ∙ none_of place none
 
     absent_at : (store : Contents) (g : Graph) (is : Represents old.shape (overlay store old.writes) g) → Agrees found.reads store → is_vertex g id ≡ false
     absent_at store g is agrees = sym (is_led is id) ∙ ap is_some (no_object store g is agrees)

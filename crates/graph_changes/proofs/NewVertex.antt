@@ -235,8 +235,7 @@ module _ (shape : Shape) (one other : Contents) (g : Graph) (is : Represents sha
     others = others;
     each_touched = (
       λ on. record { words = bucket_spelled; from = inl on },
-      λ on. record { words = vertex_spelled; from = inr (subst (IsUnreserved shape (home_of shape id)) (sym object_here) free, ap (content_of one) object_here ∙ empty) },
-      tt,
+      (λ on. record { words = vertex_spelled; from = inr (subst (IsUnreserved shape (home_of shape id)) (sym object_here) free, ap (content_of one) object_here ∙ empty) }, tt),
     );
     each_gone = tt;
     new_apart = λ rank a b on_a on_b not_a not_b _. only_new rank a on_a not_a ∙ sym (only_new rank b on_b not_b);

@@ -27,13 +27,15 @@ pub fn make_vertex<S: Store<GraphLaw>>(
 {
     let geometry = store.geometry();
     geometry.keeps_ranges();
-    if find(alloc, store, id)?.is_some() {
+    let found = find(alloc, store, id)?;
+    if found.is_some() {
         return Ok(Reply::Exists);
     }
-    if !room(alloc, store, id)? {
+    let takes = room(alloc, store, id)?;
+    if !takes {
         return Ok(Reply::TooLarge);
     }
     let made = vertex_ops::make(alloc, store, id)?;
-    let _ = add(alloc, store, id, made)?;
+    let _added = add(alloc, store, id, made)?;
     Ok(Reply::Done)
 }
