@@ -86,10 +86,10 @@ module _ (shape : Shape) (g : Graph) (id : ℕ) where
 -- ---- how many vertices a bucket leads to
 
 count-with_at : {X : Type 0} (p : ℕ → Bool) (k : ℕ) (x : X) (es : Map ℕ X) → p k ≡ true → at es k ≡ None → count_by (λ e. p e.0) (with_at es k x) ≡ count_by (λ e. p e.0) es + 1
-count-with_at {X} p k x [] passes absent = omega (arith, sum_by-cons (λ (e : ℕ × X). cond (p e.0) 1 0) (k, x) [], ap (λ b. cond b 1 0) passes)
+count-with_at {X} p k x [] passes absent = omega (arith, sum_by-cons (λ (e : ℕ × X). cond (p e.0) 1 0) (k, x) [], ap {B = ℕ} (λ b. cond b 1 0) passes)
 count-with_at {X} p k x (e ∷ es) passes absent =
     elim (nat_cmp k e.0) as (λ o. cond (is_eq o) (Some e.1) (at es k) ≡ None → count_by (λ e. p e.0) (by_order o ((k, x) ∷ e ∷ es) ((e.0, x) ∷ es) (e ∷ with_at es k x)) ≡ count_by (λ e. p e.0) (e ∷ es) + 1) [
-      | Less ↦ λ _. omega (arith, sum_by-cons (λ (e : ℕ × X). cond (p e.0) 1 0) (k, x) (e ∷ es), ap (λ b. cond b 1 0) passes)
+      | Less ↦ λ _. omega (arith, sum_by-cons (λ (e : ℕ × X). cond (p e.0) 1 0) (k, x) (e ∷ es), ap {B = ℕ} (λ b. cond b 1 0) passes)
       | Equal ↦ λ none. absurd cc
       | Greater ↦ λ none. omega (arith, sum_by-cons (λ (e : ℕ × X). cond (p e.0) 1 0) e (with_at es k x), sum_by-cons (λ (e : ℕ × X). cond (p e.0) 1 0) e es, count-with_at p k x es passes none)
     ] absent

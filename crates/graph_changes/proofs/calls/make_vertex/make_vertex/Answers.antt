@@ -102,4 +102,4 @@ returns-clause-applied g c =
     let made = c.in_ok-made.ensures in
     let added = c.in_ok-_added.ensures in
     vertex_applied (subst IsInRange c.geometry-geometry.ensures c.keeps_ranges.ensures) c.in_ok-found.ensures.found (sym c.is_some.ensures ∙ c.if-is_some.false) c.in_ok-takes.ensures.room
-    c.if-not-takes.false c.ranges.id looked.keeps.sound looked.reaches made.made made.went.reaches added.added added.works.went.reaches c.requires.stands.ordered added.works.went.keeps.sound.writes_in_order
+    c.if-not-takes.false c.ranges.id.fits looked.keeps.sound looked.reaches made.made made.went.reaches added.added added.works.went.reaches c.requires.stands.ordered added.works.went.keeps.sound.writes_in_order
