@@ -1,5 +1,5 @@
 -- The names and the kinds of a constraint, list by list, and by names alone.
-use Rattle.std.proofs.Common.{◌≡◌, ℕ, suc, ◌+◌, ◌<◌, length, map, get_or, drop, arith, Bool, true, false, ◌||◌, List, [], ◌∷◌, ◌++◌, Option, Some, None, Ok, Err, cond, is_ok, true≢false, refl, sym, ap, ◌∙◌}
+use Rattle.std.proofs.Common.{◌≡◌, ℕ, zero, suc, ◌+◌, ◌<◌, length, map, get_or, drop, arith, Bool, true, false, ◌||◌, List, [], ◌∷◌, ◌++◌, Some, Ok, Err, cond, is_ok, true≢false, refl, sym, ap, ◌∙◌}
 use Rattle.std.specs.Prelude.{is_none, not}
 use Rattle.std.specs.List.{list_any, flat_map, slice_get}
 use Rattle.std.specs.Option.{option_map, option_map_or}
@@ -14,9 +14,8 @@ use Rattle.gdi_kinds.specs.Constraint.{kind_of, same_kind}
 use Rattle.graph_model.specs.Graph.{Graph, Name, PropType}
 use Rattle.graph_model.specs.Lookups.{kind_at, label_number, type_number}
 use Rattle.graph_model.specs.ListCalls.{is_of_wrong_kind, kinds_agree, names_known}
-use Rattle.graph_model.specs.Maps.{item_at, place_where}
+use Rattle.graph_model.specs.Maps.{place_where}
 use Rattle.graph_model.specs.Steps.{◌>>=◌, Step, refused_if}
-use Rattle.holder_codec.specs.declared.meta_holder.MetaHolder.{MetaHolder}
 use Rattle.holder_codec.specs.declared.type_line.TypeLine.{TypeLine}
 use Rattle.meta_tables.specs.Names.{names_of}
 use Rattle.constraint_names.specs.Named.{named}
@@ -91,7 +90,7 @@ place_among name (line ∷ lines) = ap (λ o. cond (bytes_eq name line.name) (So
 
 pub kind_there : (lines : List TypeLine) (n : ℕ) (line : TypeLine) → slice_get lines n ≡ Some line → line.kind ≡ kind_at (record { labels = []; types = map type_of lines; vertices = []; edges = [] }) n
 kind_there [] n line never = absurd cc
-kind_there (one ∷ lines) 0 line is = cc
+kind_there (one ∷ lines) zero line is = cc
 kind_there (one ∷ lines) (suc n) line is = kind_there lines n line is
 
 types_again : (types : List PropType) → map type_of (map (λ (type : PropType). record { name = type.name; kind = type.kind; many = type.many }) types) ≡ types

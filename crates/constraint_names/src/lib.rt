@@ -3,7 +3,9 @@
 
 mod kinds;
 mod known;
+mod laws;
 mod places;
 
 pub use kinds::kinds_agree;
 pub use known::names_known;
+pub use laws::names_are_enough;
