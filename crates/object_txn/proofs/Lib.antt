@@ -18,3 +18,4 @@ pub mod MadeGone
 pub mod AloneFacts
 pub mod GrownFacts
 pub mod FreedFacts
+pub mod FirstFacts

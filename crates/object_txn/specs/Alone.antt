@@ -16,11 +16,11 @@ use Rattle.window_rule.specs.Spares.{SpareEnds}
 use Rattle.fabric.specs.Window.{RankModel}
 use Rattle.block_pool.specs.Alone.{used_blocks}
 use Rattle.object_moves.specs.Loads.{blocks_asked}
-use Rattle.object_store.specs.State.{names_rank}
+use Rattle.object_store.specs.State.{StoreState, names_rank}
 use Rattle.object_txn.specs.declared.txn.Txn.{Txn}
 use Rattle.object_txn.specs.declared.refused.TxnRefused.{TxnRefused}
 use Rattle.object_txn.specs.Planning.{own_start}
-use Rattle.object_txn.specs.State.{has_no_spare, is_ready, named_by}
+use Rattle.object_txn.specs.State.{free_on, has_no_spare, is_ready, named_by}
 
 -- the tag in a rank's head is at most this: 2^44 where no bound is known
 abbrev pub tag_bound : List (ℕ × ℕ) → ℕ → ℕ
@@ -90,3 +90,8 @@ pub record CountsBlocks {N : Type 0} (shape : Shape) (rank : RankModel N) (txn :
 abbrev pub CountsFirst : {N : Type 0} → Shape → RankModel N → RankModel N → Txn → Type 0
 CountsFirst shape opened rank txn = txn.first ≡ true → is_ready shape opened ≡ true
     → CountsBlocks shape rank txn
+
+-- the store is strict, and tells of each rank as many objects as the history leaves blocks free there
+pub record TellsFree {N : Type 0} (state : StoreState N) : Type 0 where
+  pub strict : state.strict ≡ true
+  pub most : state.most ≡ Some (free_on state.shape state.seen)

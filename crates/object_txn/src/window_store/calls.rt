@@ -12,7 +12,7 @@ impl<'a, L: Law> Store<L> for WindowStore<'a, L> {
     ghost use Rattle.object_txn.specs.Causes.{Explains, explained_for_memory};
     ghost use Rattle.object_txn.specs.State.{said_by, said_for_memory, window_state};
 
-    ghost state = { λ store. window_state store.window.now store.rank store.txn };
+    ghost state = { λ store. window_state store.window.now store.opened.value store.rank store.txn };
 
     ghost explains = { λ first last why. Explains first.window.now.shape first.rank.view last.rank.view why };
 
