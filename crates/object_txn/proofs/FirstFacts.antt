@@ -348,3 +348,12 @@ module _ {N : Type 0} (fits : Shape → Entry N → Type 0) (window : WindowMode
           made_are other,
         );
       }
+
+-- where a call took nothing, what the transaction took is the rank's own still
+pub owns_beside : {N : Type 0} (window : WindowModel) (before after : RankModel N) (old new : Txn) → CountsBlocks window.shape before old
+    → Follows before.view after.view → after.spares ≡ before.spares → after.view.private ≡ before.view.private
+    → after.view.bounds ≡ before.view.bounds → new.taken ≡ old.taken → IsTied window after new
+    → OwnsTaken window.shape after new.taken.items
+owns_beside window before after old new was follows spares own bounds taken tied =
+    subst (OwnsTaken window.shape after) (sym (ap (λ t. t.items) taken))
+    (owns_still window.shape before after old.taken.items follows tied.closed.clean spares own bounds was.owns)

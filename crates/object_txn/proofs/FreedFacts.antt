@@ -13,7 +13,7 @@ use Rattle.window_rule.specs.View.{View}
 use Rattle.window_rule.proofs.Removals.{on-both}
 use Rattle.fabric.specs.Window.{RankModel}
 use Rattle.block_pool.specs.Alone.{GivesAlone}
-use Rattle.object_txn.specs.Alone.{FreesBut, HasTagsFor, OwnsTaken, tag_bound}
+use Rattle.object_txn.specs.Alone.{FreesBut, HasSmallTags, HasTagsFor, OwnsTaken, tag_bound}
 use Rattle.object_txn.specs.Tied.{HasTaken}
 use Rattle.object_txn.proofs.AloneFacts.{few_on}
 
@@ -106,14 +106,14 @@ pub tags_left : {N : Type 0} (shape : Shape) (all left some more : List Place) (
 tags_left shape all left some more before now counted low was =
     λ home below. omega (arith, was.tags home below, low home below, counted home)
 
--- a rank that owns what it took may give back as many again
-pub owns_tags : {N : Type 0} (shape : Shape) (rank : RankModel N) (taken blocks : List Place) → shape.blocks ≤ 2 ^ 20
-    → HasTaken shape rank.view.private rank.spares taken
-    → ((home : ℕ) → count_on home blocks ≤ shape.blocks) → OwnsTaken shape rank taken → HasTagsFor shape blocks rank.view
-owns_tags shape rank taken blocks small has few owns home below = omega (
-  arith,
-  small,
-  few_on shape home taken has.once has.blocks,
-  few home,
-  owns.tags home below,
-)
+-- a rank that owns what it took has small tags
+pub owns_small : {N : Type 0} (shape : Shape) (rank : RankModel N) (taken : List Place)
+    → HasTaken shape rank.view.private rank.spares taken → OwnsTaken shape rank taken → HasSmallTags shape rank.view
+owns_small shape rank taken has owns home below =
+    omega (arith, few_on shape home taken has.once has.blocks, owns.tags home below)
+
+-- and may give back as many again
+pub small_tags : {N : Type 0} (shape : Shape) (rank : RankModel N) (blocks : List Place) → shape.blocks ≤ 2 ^ 20
+    → HasTaken shape rank.view.private rank.spares blocks → HasSmallTags shape rank.view → HasTagsFor shape blocks rank.view
+small_tags shape rank blocks small has tags home below =
+    omega (arith, small, few_on shape home blocks has.once has.blocks, tags home below)

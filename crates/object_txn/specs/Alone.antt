@@ -31,6 +31,11 @@ abbrev pub HasTagsFor : {N : Type 0} → Shape → List Place → View N → Typ
 HasTagsFor shape blocks view = (home : ℕ) → home < shape.ranks
     → tag_bound view.bounds home + count_on home blocks < 2 ^ 44
 
+-- so it is if these are no more than a rank has, once as many were taken
+abbrev pub HasSmallTags : {N : Type 0} → Shape → View N → Type 0
+HasSmallTags shape view = (home : ℕ) → home < shape.ranks
+    → tag_bound view.bounds home ≤ 2 ^ 43 + shape.blocks
+
 -- blocks are given back, and those that are left of them aren't yet: there is no new spare, and each raised a tag by 1 at most
 pub record FreesBut {N : Type 0} (shape : Shape) (all left : List Place)
     (before after : RankModel N) : Type 0 where

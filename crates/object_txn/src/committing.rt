@@ -8,7 +8,7 @@ ghost use Rattle.window_rule.specs.Trails.{Follows};
 ghost use Rattle.window_rule.specs.Truths.{IsTrueView};
 ghost use Rattle.block_pool.specs.Gives.{IsForUse, OnlyBlocks};
 ghost use Rattle.object_store.specs.declared.phase.Phase.TheVariants.{Writing};
-ghost use Rattle.object_txn.specs.Alone.{FreesBut, HasTagsFor};
+ghost use Rattle.object_txn.specs.Alone.{FreesBut, HasSmallTags, HasTagsFor};
 ghost use Rattle.object_txn.specs.Committing.{Enters};
 ghost use Rattle.object_txn.specs.Endings.{GivesAll, GivesLeft};
 ghost use Rattle.object_txn.specs.Planning.{AreAllPlans};
@@ -82,13 +82,13 @@ pub(crate) fn leave_committed<L: Law>(
     ensures ended { IsNone txn.new }
     ensures free { IsFree rank.new.view }
     ensures given { GivesLeft (surplus_in plans.now) rank.old rank.new }
-    ensures alone { IsAlone window.now.shape rank.old.view → HasTagsFor window.now.shape (surplus_in plans.now) rank.old.view
-        → rank.new.spares ≡ rank.old.spares }
+    ensures alone { IsAlone window.now.shape rank.old.view → HasSmallTags window.now.shape rank.old.view → rank.new.spares ≡ rank.old.spares }
     ensures later { txn.new.first ≡ false }
     ensures seen { rank.new.view.seen ≡ rank.old.view.seen }
     ensures truths { IsTrueView L.fits window.now.shape rank.new.view }
     ensures follows { Follows rank.old.view rank.new.view }
 {
+    window.geometry().keeps_ranges();
     leave_all(window, rank, &mut txn.held);
     leave_gate(window, rank, txn.phase);
     give_surplus(window, rank, plans);

@@ -8,7 +8,7 @@ ghost use Rattle.window_rule.specs.Trails.{Follows};
 ghost use Rattle.window_rule.specs.Truths.{IsTrueView};
 ghost use Rattle.block_pool.specs.Gives.{OnlyBlocks};
 ghost use Rattle.object_store.specs.declared.phase.Phase.TheVariants.{Writing};
-ghost use Rattle.object_txn.specs.Alone.{FreesBut, HasTagsFor};
+ghost use Rattle.object_txn.specs.Alone.{FreesBut, HasTagsFor, OwnsTaken};
 ghost use Rattle.object_txn.specs.Endings.{GivesBack, GivesEach};
 ghost use Rattle.object_txn.specs.State.{gate_of};
 ghost use Rattle.object_txn.specs.Tied.{HasTaken, IsFree, IsNone, IsTied};
@@ -31,12 +31,12 @@ pub(crate) fn end_all<L: Law>(window: &Window<L>, rank: &mut Rank<L>, txn: &mut 
     ensures given { GivesBack txn.old.taken.items rank.old rank.new }
     ensures seen { rank.new.view.seen ≡ rank.old.view.seen }
     ensures spares { txn.old.phase ≢ Writing → rank.new.spares ≡ rank.old.spares }
-    ensures alone { IsAlone window.now.shape rank.old.view → HasTagsFor window.now.shape txn.old.taken.items rank.old.view
-        → rank.new.spares ≡ rank.old.spares }
+    ensures alone { OwnsTaken window.now.shape rank.old txn.old.taken.items → rank.new.spares ≡ rank.old.spares }
     ensures later { txn.new.first ≡ false }
     ensures truths { IsTrueView L.fits window.now.shape rank.new.view }
     ensures follows { Follows rank.old.view rank.new.view }
 {
+    window.geometry().keeps_ranges();
     leave_all(window, rank, &mut txn.held);
     leave_gate(window, rank, txn.phase);
     give_all(window, rank, &mut txn.taken);

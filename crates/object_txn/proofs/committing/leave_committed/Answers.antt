@@ -7,6 +7,7 @@ use Rattle.fabric.specs.Window.{RankModel}
 use Rattle.window_rule.proofs.Trails.{follows_trans}
 use Rattle.block_pool.proofs.MovesKept.{alone_still}
 use Rattle.object_txn.specs.Alone.{tag_bound}
+use Rattle.object_txn.proofs.FreedFacts.{small_tags}
 use Rattle.object_txn.specs.Endings.{GivesEach}
 use Rattle.object_txn.specs.Plans.{surplus_in}
 use Rattle.object_txn.specs.Tied.{HasTaken}
@@ -57,10 +58,12 @@ returns-clause-given g c = record {
 }
 
 pub returns-clause-alone : goal.returns-clause-alone
-returns-clause-alone g c = λ alone low.
+returns-clause-alone g c = λ alone tags.
     let left = c.leave_gate.new.rank in
     let bounds = ap (λ (v : View g.row.L-Note.Denot). v.bounds) c.leave_gate.ensures.view ∙ ap (λ (v : View g.row.L-Note.Denot). v.bounds) c.leave_all.ensures.left.only in
     let follows = follows_trans c.args.rank.now.view c.leave_all.new.rank.view left.view c.leave_all.ensures.follows c.leave_gate.ensures.follows in
+    let low = small_tags c.args.window.now.shape c.args.rank.now (surplus_in c.args.plans.now)
+    (omega (arith, c.keeps_ranges.ensures.blocks, ap (λ s. s.blocks) c.geometry.ensures)) c.requires.surplus tags in
     c.truths.ensures.spares
     ∙ ((c.give_surplus.ensures.alone (alone_still c.args.window.now.shape c.args.rank.now.view left.view follows alone)
     (λ home below. omega (arith, ap (λ b. tag_bound b home) bounds, low home below))).spares

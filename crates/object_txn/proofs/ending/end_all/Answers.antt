@@ -4,6 +4,7 @@ use Rattle.fabric.specs.Window.{RankModel}
 use Rattle.window_rule.proofs.Trails.{follows_trans}
 use Rattle.block_pool.proofs.MovesKept.{alone_still}
 use Rattle.object_txn.specs.Alone.{tag_bound}
+use Rattle.object_txn.proofs.FreedFacts.{owns_small, small_tags}
 use Rattle.object_txn.specs.Endings.{GivesEach}
 use Rattle.object_txn.specs.Tied.{IsTied}
 use Rattle.object_txn.proofs.EndingFacts.{free_by, rank_by_parts}
@@ -24,11 +25,15 @@ returns-clause-free g c =
     free_by c.args.window.now c.truths.new.self c.end.new.self tied c.end.ensures
 
 pub returns-clause-alone : goal.returns-clause-alone
-returns-clause-alone g c = λ alone low.
+returns-clause-alone g c = λ owns.
     let left = c.leave_gate.new.rank in
+    let items = c.args.txn.now.taken.items in
     let bounds = ap (λ (v : View g.row.L-Note.Denot). v.bounds) c.leave_gate.ensures.view ∙ ap (λ (v : View g.row.L-Note.Denot). v.bounds) c.leave_all.ensures.left.only in
     let follows = follows_trans c.args.rank.now.view c.leave_all.new.rank.view left.view c.leave_all.ensures.follows c.leave_gate.ensures.follows in
+    let low = small_tags c.args.window.now.shape c.args.rank.now items
+    (omega (arith, c.keeps_ranges.ensures.blocks, ap (λ s. s.blocks) c.geometry.ensures)) c.requires.tied.taken
+    (owns_small c.args.window.now.shape c.args.rank.now items c.requires.tied.taken owns) in
     c.truths.ensures.spares
-    ∙ ((c.give_all.ensures.alone (alone_still c.args.window.now.shape c.args.rank.now.view left.view follows alone)
+    ∙ ((c.give_all.ensures.alone (alone_still c.args.window.now.shape c.args.rank.now.view left.view follows owns.alone)
     (λ home below. omega (arith, ap (λ b. tag_bound b home) bounds, low home below))).spares
     ∙ (c.leave_gate.ensures.spares ∙ c.leave_all.ensures.spares))

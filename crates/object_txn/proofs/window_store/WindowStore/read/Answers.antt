@@ -1,10 +1,13 @@
 use Rattle.std.proofs.Common.{rules, List, sym, ap, ◌∙◌, subst}
+use Rattle.window_rule.specs.View.{View}
+use Rattle.object_txn.specs.Moves.{Reads}
 use Rattle.window_rule.specs.Trails.{Follows}
 use Rattle.window_rule.proofs.Trails.{follows_trans}
 use Rattle.rma_layout.specs.Placement.{Place}
 use Rattle.object_txn.specs.Endings.{GivesEach}
 use Rattle.object_txn.specs.Tied.{IsTied}
-use Rattle.object_txn.proofs.StoreFacts.{continues}
+use Rattle.object_txn.proofs.FirstFacts.{counts_told, owns_beside}
+use Rattle.object_txn.proofs.StoreFacts.{continues, firm, reads_object, refuses_access}
 use Rattle.object_txn.proofs.Explaining.{explains_later, never_for_others}
 use Rattle.object_txn.proofs.window_store.WindowStore.read.Goals as goal
 
@@ -13,8 +16,10 @@ returns-in-Ok-clause-keeps g c =
     let self = c.args.self.now in
     let follows : Follows self.rank.view c.truths.new.self.view = search rules in
     let tied : IsTied self.window.now c.truths.new.self c.read_at.new.txn = search rules in
-    continues g.L.Law.fits self.window.now self.rank c.truths.new.self self.txn c.read_at.new.txn follows c.truths.ensures.truths tied
-    (λ _. c.truths.ensures.spares ∙ c.read_at.ensures.spares)
+    let spares = c.truths.ensures.spares ∙ c.read_at.ensures.spares in
+    continues g.L.Law.fits self.window.now self.opened.value self.rank c.truths.new.self self.txn c.read_at.new.txn follows
+    (firm g.L.Law.fits self.window.now.shape self.opened.value self.rank c.truths.new.self self.txn self.counts follows c.truths.ensures.truths (λ _. spares))
+    c.truths.ensures.truths tied (λ _. spares)
 
 pub returns-in-Err-clause-explained : goal.returns-in-Err-clause-explained
 returns-in-Err-clause-explained g c =
@@ -34,10 +39,37 @@ returns-in-Err-clause-given g c =
 pub returns-in-Err-clause-keeps : goal.returns-in-Err-clause-keeps
 returns-in-Err-clause-keeps g c =
     let self = c.args.self.now in
-    continues g.L.Law.fits self.window.now self.rank c.end_all.new.rank self.txn c.end_all.new.txn
+    continues g.L.Law.fits self.window.now self.opened.value self.rank c.end_all.new.rank self.txn c.end_all.new.txn
     (follows_trans self.rank.view c.read_at.new.rank.view c.end_all.new.rank.view c.read_at.ensures.follows c.end_all.ensures.follows)
+    (firm g.L.Law.fits self.window.now.shape self.opened.value self.rank c.end_all.new.rank self.txn self.counts
+    (follows_trans self.rank.view c.read_at.new.rank.view c.end_all.new.rank.view c.read_at.ensures.follows c.end_all.ensures.follows) c.end_all.ensures.truths
+    (λ was. c.end_all.ensures.alone (owns_beside self.window.now self.rank c.read_at.new.rank self.txn c.read_at.new.txn was c.read_at.ensures.follows c.read_at.ensures.spares
+    c.read_at.ensures.private c.read_at.ensures.bounds c.read_at.ensures.taken c.read_at.ensures.tied) ∙ c.read_at.ensures.spares))
     c.end_all.ensures.truths c.end_all.ensures.tied (λ quiet. c.end_all.ensures.spares (λ writing. quiet (sym c.read_at.ensures.phase ∙ writing)) ∙ c.read_at.ensures.spares)
 
 pub returns-in-Err-clause-alone : goal.returns-in-Err-clause-alone
 returns-in-Err-clause-alone g c = λ alone.
     never_for_others c.args.self.now.window.now.shape c.args.self.now.rank.view c.end_all.new.rank.view c.in-Err.why (returns-in-Err-clause-explained g c) alone
+
+pub returns-in-Err-clause-refused : goal.returns-in-Err-clause-refused
+returns-in-Err-clause-refused g c =
+    let self = c.args.self.now in
+    refuses_access g.L.Law.fits self.window.now self.opened.value self.rank c.end_all.new.rank self.txn c.end_all.new.txn
+    (follows_trans self.rank.view c.read_at.new.rank.view c.end_all.new.rank.view c.read_at.ensures.follows c.end_all.ensures.follows)
+    (firm g.L.Law.fits self.window.now.shape self.opened.value self.rank c.end_all.new.rank self.txn self.counts
+    (follows_trans self.rank.view c.read_at.new.rank.view c.end_all.new.rank.view c.read_at.ensures.follows c.end_all.ensures.follows) c.end_all.ensures.truths
+    (λ was. c.end_all.ensures.alone (owns_beside self.window.now self.rank c.read_at.new.rank self.txn c.read_at.new.txn was c.read_at.ensures.follows c.read_at.ensures.spares
+    c.read_at.ensures.private c.read_at.ensures.bounds c.read_at.ensures.taken c.read_at.ensures.tied) ∙ c.read_at.ensures.spares))
+    c.args.at c.in-Err.why c.in-Err.ensures.names c.end_all.ensures.ended
+    (λ told. returns-in-Err-clause-alone g c (counts_told self.window.now.shape self.opened.value self.rank self.txn self.counts told).owns.alone)
+
+pub returns-in-Ok-clause-done : goal.returns-in-Ok-clause-done
+returns-in-Ok-clause-done g c =
+    let self = c.args.self.now in
+    let follows : Follows self.rank.view c.truths.new.self.view = search rules in
+    reads_object g.L.Law.fits self.window.now self.opened.value self.rank c.truths.new.self self.txn c.read_at.new.txn follows
+    (firm g.L.Law.fits self.window.now.shape self.opened.value self.rank c.truths.new.self self.txn self.counts follows c.truths.ensures.truths
+    (λ _. c.truths.ensures.spares ∙ c.read_at.ensures.spares))
+    c.args.at c.in-Ok.words c.truths.ensures.truths
+    (subst (λ (v : View g.row.L-Note.Denot). Reads c.args.at v self.txn c.read_at.new.txn c.in-Ok.words) (sym c.truths.ensures.view) c.in-Ok.ensures.reads)
+    c.read_at.ensures.phase c.read_at.ensures.writes c.read_at.ensures.first

@@ -7,4 +7,4 @@ pub returns-clause-sound : goal.returns-clause-sound
 returns-clause-sound g c =
     let self = c.args.self.now in
     let tied : IsTied self.window.now c.truths.new.self self.txn = search rules in
-    sound g.L.Law.fits self.window.now c.truths.new.self self.txn c.truths.ensures.truths tied
+    sound g.L.Law.fits self.window.now self.opened.value c.truths.new.self self.txn c.truths.ensures.truths tied

@@ -4,7 +4,8 @@ use Rattle.window_rule.proofs.Trails.{follows_trans}
 use Rattle.rma_layout.specs.Placement.{Place}
 use Rattle.object_txn.specs.Endings.{GivesEach}
 use Rattle.object_txn.specs.Tied.{IsTied}
-use Rattle.object_txn.proofs.StoreFacts.{continues, may_be_written}
+use Rattle.object_txn.proofs.FirstFacts.{counts_told, owns_beside}
+use Rattle.object_txn.proofs.StoreFacts.{continues, firm, may_be_written, refuses_access, writes_object}
 use Rattle.object_txn.proofs.Explaining.{explains_later, never_for_others}
 use Rattle.object_txn.proofs.window_store.WindowStore.write.Goals as goal
 
@@ -13,8 +14,10 @@ returns-in-Ok-clause-keeps g c =
     let self = c.args.self.now in
     let follows : Follows self.rank.view c.truths.new.self.view = search rules in
     let tied : IsTied self.window.now c.truths.new.self c.write_at.new.txn = search rules in
-    continues g.L.Law.fits self.window.now self.rank c.truths.new.self self.txn c.write_at.new.txn follows c.truths.ensures.truths tied
-    (λ _. c.truths.ensures.spares ∙ c.write_at.ensures.spares)
+    let spares = c.truths.ensures.spares ∙ c.write_at.ensures.spares in
+    continues g.L.Law.fits self.window.now self.opened.value self.rank c.truths.new.self self.txn c.write_at.new.txn follows
+    (firm g.L.Law.fits self.window.now.shape self.opened.value self.rank c.truths.new.self self.txn self.counts follows c.truths.ensures.truths (λ _. spares))
+    c.truths.ensures.truths tied (λ _. spares)
 
 pub returns-in-Err-clause-explained : goal.returns-in-Err-clause-explained
 returns-in-Err-clause-explained g c =
@@ -25,7 +28,7 @@ returns-in-Err-clause-explained g c =
 pub write_at-requires-clause-may : goal.write_at-requires-clause-may
 write_at-requires-clause-may g c =
     let self = c.args.self.now in
-    may_be_written g.L.Law.fits self.window.now self.rank self.txn c.args.at self.tied c.requires.may
+    may_be_written g.L.Law.fits self.window.now self.opened.value self.rank self.txn c.args.at self.tied c.requires.may
 
 pub returns-in-Err-clause-given : goal.returns-in-Err-clause-given
 returns-in-Err-clause-given g c =
@@ -39,10 +42,35 @@ returns-in-Err-clause-given g c =
 pub returns-in-Err-clause-keeps : goal.returns-in-Err-clause-keeps
 returns-in-Err-clause-keeps g c =
     let self = c.args.self.now in
-    continues g.L.Law.fits self.window.now self.rank c.end_all.new.rank self.txn c.end_all.new.txn
+    continues g.L.Law.fits self.window.now self.opened.value self.rank c.end_all.new.rank self.txn c.end_all.new.txn
     (follows_trans self.rank.view c.write_at.new.rank.view c.end_all.new.rank.view c.write_at.ensures.follows c.end_all.ensures.follows)
+    (firm g.L.Law.fits self.window.now.shape self.opened.value self.rank c.end_all.new.rank self.txn self.counts
+    (follows_trans self.rank.view c.write_at.new.rank.view c.end_all.new.rank.view c.write_at.ensures.follows c.end_all.ensures.follows) c.end_all.ensures.truths
+    (λ was. c.end_all.ensures.alone (owns_beside self.window.now self.rank c.write_at.new.rank self.txn c.write_at.new.txn was c.write_at.ensures.follows c.write_at.ensures.spares
+    c.write_at.ensures.private c.write_at.ensures.bounds c.write_at.ensures.taken c.write_at.ensures.tied) ∙ c.write_at.ensures.spares))
     c.end_all.ensures.truths c.end_all.ensures.tied (λ quiet. absurd (quiet c.requires.begun))
 
 pub returns-in-Err-clause-alone : goal.returns-in-Err-clause-alone
 returns-in-Err-clause-alone g c = λ alone.
     never_for_others c.args.self.now.window.now.shape c.args.self.now.rank.view c.end_all.new.rank.view c.in-Err.why (returns-in-Err-clause-explained g c) alone
+
+pub returns-in-Err-clause-refused : goal.returns-in-Err-clause-refused
+returns-in-Err-clause-refused g c =
+    let self = c.args.self.now in
+    refuses_access g.L.Law.fits self.window.now self.opened.value self.rank c.end_all.new.rank self.txn c.end_all.new.txn
+    (follows_trans self.rank.view c.write_at.new.rank.view c.end_all.new.rank.view c.write_at.ensures.follows c.end_all.ensures.follows)
+    (firm g.L.Law.fits self.window.now.shape self.opened.value self.rank c.end_all.new.rank self.txn self.counts
+    (follows_trans self.rank.view c.write_at.new.rank.view c.end_all.new.rank.view c.write_at.ensures.follows c.end_all.ensures.follows) c.end_all.ensures.truths
+    (λ was. c.end_all.ensures.alone (owns_beside self.window.now self.rank c.write_at.new.rank self.txn c.write_at.new.txn was c.write_at.ensures.follows c.write_at.ensures.spares
+    c.write_at.ensures.private c.write_at.ensures.bounds c.write_at.ensures.taken c.write_at.ensures.tied) ∙ c.write_at.ensures.spares))
+    c.args.at c.in-Err.why c.in-Err.ensures.names c.end_all.ensures.ended
+    (λ told. returns-in-Err-clause-alone g c (counts_told self.window.now.shape self.opened.value self.rank self.txn self.counts told).owns.alone)
+
+pub returns-in-Ok-clause-done : goal.returns-in-Ok-clause-done
+returns-in-Ok-clause-done g c =
+    let self = c.args.self.now in
+    let follows : Follows self.rank.view c.truths.new.self.view = search rules in
+    writes_object g.L.Law.fits self.window.now self.opened.value self.rank c.truths.new.self self.txn c.write_at.new.txn follows
+    (firm g.L.Law.fits self.window.now.shape self.opened.value self.rank c.truths.new.self self.txn self.counts follows c.truths.ensures.truths
+    (λ _. c.truths.ensures.spares ∙ c.write_at.ensures.spares))
+    c.args.at c.args.words c.write_at.ensures.reads c.in-Ok.ensures.writes c.write_at.ensures.phase c.write_at.ensures.first
