@@ -11,7 +11,7 @@ use Rattle.traversals.specs.Outline.{Outline, IsOf, names_in, labels_of, props_o
 use Rattle.traversals.specs.Props.{row_of_props, passes_row}
 use Rattle.traversals.specs.Found.{is_found, found_in}
 use Rattle.traversals.specs.Rows.{row_of}
-use Rattle.traversals.proofs.Passing.{same-passing}
+use Rattle.traversals.proofs.ByNames.{same-passing}
 
 id-at : (vs : Map ℕ Vertex) (k : ℕ) → k < length vs → get_or (keys vs) k 0 ≡ (get_or vs k (0, new_vertex)).0
 id-at [] k below = absurd (omega (arith, below))

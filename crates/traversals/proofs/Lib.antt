@@ -2,6 +2,6 @@ pub mod Rows
 pub mod Steps
 pub mod Telling
 pub mod Atoms
-pub mod Passing
+pub mod ByNames
 pub mod Finding
 pub mod Scanning

@@ -15,7 +15,7 @@ use Rattle.graph_model.specs.EdgeCalls.{label_if_named}
 use Rattle.graph_model.specs.ListCalls.{atoms_of, names_known, kinds_agree, vertices_where}
 use Rattle.traversals.specs.Outline.{Outline, IsOf}
 use Rattle.traversals.specs.Questions.{Tells}
-use Rattle.traversals.proofs.Passing.{same-label, same-names, same-kinds}
+use Rattle.traversals.proofs.ByNames.{same-label, same-names, same-kinds}
 
 module _ {X : Type 0} (p : X → Bool) where
   pub position-place_where : (xs : List X) → position p xs ≡ place_where p xs

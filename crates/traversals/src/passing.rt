@@ -89,7 +89,7 @@ impl FlatNames {
 
 // Whether there is another name, and it is this one.
 fn is_this(name: &Name, other: Option<&Name>) -> bool
-    ensures { result ≡ bytes_eq name.now (unwrap_or (option_copied other) []) }
+    ensures { result ≡ bytes_eq name.now (unwrap_or (option_copied other.entry) []) }
 {
     let bytes = name.bytes();
     match other {
