@@ -1,5 +1,5 @@
 -- The names and the kinds of a constraint, list by list.
-use Rattle.std.proofs.Common.{◌≡◌, ℕ, suc, ◌+◌, ◌<◌, length, get_or, drop, arith, Bool, true, false, ◌||◌, List, [], ◌∷◌, ◌++◌, Ok, Err, is_ok, true≢false, refl, sym, ap, ◌∙◌}
+use Rattle.std.proofs.Common.{◌≡◌, ℕ, suc, ◌+◌, ◌<◌, length, get_or, map, drop, arith, Bool, true, false, ◌||◌, List, [], ◌∷◌, ◌++◌, Ok, Err, is_ok, true≢false, refl, sym, ap, ◌∙◌}
 use Rattle.std.specs.Prelude.{is_none}
 use Rattle.std.specs.List.{list_any, flat_map}
 use Rattle.std.proofs.lemmas.List.Folds.{list_any-append}
@@ -35,10 +35,6 @@ known = Ok tt
 
 abbrev pub refused : Reply → Step Told
 refused r = Err r
-
-then-same : (s : Step Told) → (s >>= (λ _. known)) ≡ s
-then-same (Ok tt) = refl
-then-same (Err r) = refl
 
 assoc : (b : Bool) (r : Reply) (x y : Step Told) → (refused_if b r >>= (λ _. x >>= (λ _. y))) ≡ ((refused_if b r >>= (λ _. x)) >>= (λ _. y))
 assoc true r x y = refl

@@ -1,7 +1,7 @@
 -- The labels and the properties of a vertex in plain rows, by number, and when they pass a constraint.
 use Rattle.std.specs.Prelude.{ℕ, Bool, true, List, [], map, Option, Some, None}
 use Rattle.std.specs.List.{flat_map}
-use Rattle.std.specs.Option.{option_map_or, unwrap_or, option_map}
+use Rattle.std.specs.Option.{option_map_or}
 use Rattle.gdi_kinds.specs.declared.constraint.Atom.{Atom}
 use Rattle.gdi_kinds.specs.declared.prop_line.PropLine.{PropLine}
 use Rattle.gdi_kinds.specs.Constraint.{passes}
@@ -16,7 +16,7 @@ row_of_props props = flat_map (λ entry. map (λ value. record { ty = entry.0; v
 
 -- the name of a property type, and an empty one where there is none
 abbrev pub name_of_type : Graph → ℕ → Name
-name_of_type g ty = unwrap_or (option_map (λ type. type.name) (item_at g.types ty)) []
+name_of_type g ty = option_map_or (λ type. type.name) (item_at g.types ty) []
 
 -- such a row by the names of its types
 abbrev pub lines_of : Graph → List FlatProp → List PropLine

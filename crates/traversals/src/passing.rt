@@ -53,12 +53,31 @@ impl FlatNames {
     fn is_among(&self, name: &Name, labels: &[u32]) -> bool
         ensures { result ≡ list_any (bytes_eq name.now) (names_of self.now labels.now) }
     {
+        self.some_label_is(name, labels)
+    }
+
+    fn some_label_is(&self, name: &Name, labels: &[u32]) -> bool
+        ensures { result ≡ list_any (λ label. bytes_eq name.now (unwrap_or (item_at self.now.labels label) [])) labels.now }
+    {
         labels.iter().any(|label| self.is_label(*label, name))
     }
 
     fn some_compares_so(&self, props: &[FlatProp], name: &Name, op: Op, constant: &Value) -> bool
         ensures { result ≡ list_any (λ line. bytes_eq name.now line.name
             && option_map_or (holds_of op) (compare_values line.value constant.now) false) (lines_of self.now props.now) }
+    {
+        self.some_prop_compares_so(props, name, op, constant)
+    }
+
+    fn some_prop_compares_so(
+        &self,
+        props: &[FlatProp],
+        name: &Name,
+        op: Op,
+        constant: &Value,
+    ) -> bool
+        ensures { result ≡ list_any (λ prop. bytes_eq name.now (name_of_type self.now prop.ty)
+            && option_map_or (holds_of op) (compare_values prop.value constant.now) false) props.now }
     {
         props
             .iter()
