@@ -183,10 +183,10 @@ full_below shape g txn r some is =
       ] refl
     ] is
 
--- a transaction has room where each rank has: for a block for each call that may make an object, and for all blocks besides the first
-pub surely_room : (shape : Shape) (g : Graph) (txn : Txn) (before after : Blocks) → 0 < shape.ranks → IsCountOf shape g before → IsCountOf shape (graph_after_txn shape g txn) after
-    → ((rank : ℕ) → rank < shape.ranks → used_on before rank + makers_on shape txn.calls rank + more_on after rank ≤ shape.blocks) → full_rank shape g txn ≡ None
-surely_room shape g txn before after some used more fits =
+-- a transaction has room where each rank has as many blocks as are in use and needed
+pub room_on_each : (shape : Shape) (g : Graph) (txn : Txn) → 0 < shape.ranks
+    → (txn.aborts ≡ false → (rank : ℕ) → rank < shape.ranks → blocks_used_on shape g rank + blocks_needed_on shape g txn.calls rank ≤ shape.blocks) → full_rank shape g txn ≡ None
+room_on_each shape g txn some fits =
     elim (full_rank shape g txn) as (λ full. full_rank shape g txn ≡ full → full ≡ None) [
       | None ↦ λ _. refl
       | Some rank ↦ λ is. absurd (pick rank is txn.aborts refl)
@@ -195,11 +195,18 @@ surely_room shape g txn before after some used more fits =
     pick : (rank : ℕ) → full_rank shape g txn ≡ Some rank → (b : Bool) → txn.aborts ≡ b → ⊥
     pick rank is true aborts = nothing rank (sym (abort_never_full shape g txn aborts) ∙ is)
     pick rank is false aborts =
-        let below = full_below shape g txn rank some is in
-        let last : graph_after_txn shape g txn ≡ graph_after_calls shape g txn.calls = ap (λ (b : Bool). if b then g else graph_after_calls shape g txn.calls) aborts in
         let short : shape.blocks < blocks_used_on shape g rank + blocks_needed_on shape g txn.calls rank = named_rank_short shape g txn rank is in
-        let besides : more_on after rank ≡ more_blocks_on shape (graph_after_calls shape g txn.calls) rank = more.more rank below ∙ ap (λ h. more_blocks_on shape h rank) last in
-        omega (arith, short, needs_at_most shape g txn.calls rank, used.used rank below, besides, fits rank below)
+        omega (arith, short, fits aborts rank (full_below shape g txn rank some is))
+
+-- and so where each rank has room for a block for each call that may make an object, and for all blocks besides the first
+pub surely_room : (shape : Shape) (g : Graph) (txn : Txn) (before after : Blocks) → 0 < shape.ranks → IsCountOf shape g before → IsCountOf shape (graph_after_txn shape g txn) after
+    → ((rank : ℕ) → rank < shape.ranks → used_on before rank + makers_on shape txn.calls rank + more_on after rank ≤ shape.blocks) → full_rank shape g txn ≡ None
+surely_room shape g txn before after some used more fits =
+    room_on_each shape g txn some
+    (λ aborts rank below.
+    let last : graph_after_txn shape g txn ≡ graph_after_calls shape g txn.calls = ap (λ (b : Bool). if b then g else graph_after_calls shape g txn.calls) aborts in
+    let besides : more_on after rank ≡ more_blocks_on shape (graph_after_calls shape g txn.calls) rank = more.more rank below ∙ ap (λ h. more_blocks_on shape h rank) last in
+    omega (arith, needs_at_most shape g txn.calls rank, used.used rank below, besides, fits rank below))
 
 maker-cons : (shape : Shape) (rank : ℕ) (call : Call) (left rest : List Call) → left ≡ call ∷ rest → makers_on shape left rank ≡ (if may_make_on shape rank call then 1 else 0) + makers_on shape rest rank
 maker-cons shape rank call left rest is = ap (λ cs. makers_on shape cs rank) is ∙ sum_by-cons (λ c. cond (may_make_on shape rank c) 1 0) call rest

@@ -1,5 +1,5 @@
 -- What is kept of a plain graph while transactions are done on it.
-use Rattle.std.proofs.Common.{◌≡◌, ℕ, ◌+◌, ◌-◌, ◌<◌, Bool, true, false, not, ◌||◌, List, [], ◌∷◌, Option, None, if◌then◌else◌, refl, sym, ap, subst, ◌∙◌}
+use Rattle.std.proofs.Common.{◌≡◌, ℕ, ◌+◌, ◌-◌, ◌<◌, Bool, true, false, not, ◌||◌, List, [], ◌∷◌, Option, None, if◌then◌else◌, refl, sym, ap, subst, ◌∙◌, arith, true≢false}
 use Rattle.std.specs.List.{AllByRecursion}
 use Rattle.std.specs.Option.{option_or}
 use Rattle.gdi_kinds.specs.declared.call.Call.{Call}
@@ -17,9 +17,10 @@ use Rattle.map_graph.specs.Plain.{Plain}
 use Rattle.plain_graph.specs.declared.growth.Growth.{Growth}
 use Rattle.plain_graph.specs.declared.rooms.Rooms.{Rooms}
 use Rattle.plain_graph.specs.declared.trial.Trial.{Trial}
+use Rattle.plain_graph.specs.declared.usage.Usage.{Usage}
 use Rattle.plain_graph.specs.Rooms.{taken_on}
 use Rattle.plain_graph.specs.Trials.{IsGrowth, Tells}
-use Rattle.plain_graph.specs.Used.{AreUsed, HaveRanks, IsKept, amount_on}
+use Rattle.plain_graph.specs.Used.{AreEnough, AreUsed, HaveRanks, IsKept, IsWithin, amount_on}
 use Rattle.plain_graph.proofs.Shortage.{makes_below, used_last}
 
 -- ---- transactions that leave the graph, and others
@@ -62,14 +63,14 @@ have_ranks shape g calls [] each = tt
 have_ranks shape g calls (growth ∷ growths) each = (each.0.on, have_ranks shape g calls growths each.1)
 
 pub told_touched : (shape : Shape) (g : Graph) (calls : List Call) (trial : Trial) → Tells shape g calls trial → HaveRanks shape trial.touched.items
-told_touched shape g calls trial told = have_ranks shape g calls trial.touched.items told.each
+told_touched shape g calls trial told = have_ranks shape g calls trial.touched.items told.touched.each
 
 pub told_makes : (shape : Shape) (g : Graph) (calls : List Call) (trial : Trial) → 0 < shape.ranks → Tells shape g calls trial → AllByRecursion (λ rank. rank < shape.ranks) trial.makes.items
 told_makes shape g calls trial some told = subst (AllByRecursion (λ rank. rank < shape.ranks)) (sym told.makes) (makes_below shape g calls some)
 
 -- ---- what is kept
 
-first_in_order : (shape : Shape) (g : Graph) (calls : List Call) → AreSound shape g calls → IsInOrder g
+pub first_in_order : (shape : Shape) (g : Graph) (calls : List Call) → AreSound shape g calls → IsInOrder g
 first_in_order shape g [] sound = sound.0
 first_in_order shape g (call ∷ calls) sound = sound.0.0
 
@@ -86,6 +87,28 @@ pub done_kept : (before after : Plain) (calls : List Call) (trial : Trial) (used
 done_kept before after calls trial used next kept told shape graph well counts = record {
   well_formed = well;
   counted = subst (λ s. AreUsed s after.graph next) (sym shape) (subst (λ h. AreUsed before.shape h next) (sym graph)
-      (λ rank below. used_last before.shape before.graph calls trial.touched.items told.sound told.apart told.cover told.each
-      (first_in_order before.shape before.graph calls told.sound) rank (taken_on used rank) (taken_on next rank) (kept.counted rank below) (counts rank)));
+      (λ rank below. used_last before.shape before.graph calls trial.touched.items told.touched.sound told.touched.apart told.touched.cover told.touched.each
+      (first_in_order before.shape before.graph calls told.touched.sound) rank (taken_on used rank) (taken_on next rank) (kept.counted rank below) (counts rank)));
+}
+
+-- ---- what is known of the blocks
+
+pub same_within : (before after : Plain) (usage : Usage) → IsWithin before usage → after.shape ≡ before.shape → after.graph ≡ before.graph → IsWellFormed after.graph → IsWithin after usage
+same_within before after usage within shape graph well = record {
+  well_formed = well;
+  enough = subst (λ s. AreEnough s after.graph usage.used) (sym shape) (subst (λ h. AreEnough before.shape h usage.used) (sym graph) within.enough);
+  exact = λ is. subst (λ s. AreUsed s after.graph usage.used) (sym shape) (subst (λ h. AreUsed before.shape h usage.used) (sym graph) (within.exact is));
+}
+
+pub counted_within : (plain : Plain) (used : Rooms) (usage : Usage) → IsKept plain used → usage.used ≡ used → IsWithin plain usage
+counted_within plain used usage kept is =
+    let counted : AreUsed plain.shape plain.graph usage.used = subst (AreUsed plain.shape plain.graph) (sym is) kept.counted in
+    record { well_formed = kept.well_formed; enough = λ rank below. omega (arith, counted rank below); exact = λ _. counted }
+
+pub raised_within : (before after : Plain) (calls : List Call) (most : Rooms) (usage : Usage) → AreEnough before.shape (graph_after_calls before.shape before.graph calls) most
+    → usage.used ≡ most → usage.exact ≡ false → after.shape ≡ before.shape → after.graph ≡ graph_after_calls before.shape before.graph calls → IsWellFormed after.graph → IsWithin after usage
+raised_within before after calls most usage enough is open_ended shape graph well = record {
+  well_formed = well;
+  enough = subst (AreEnough after.shape after.graph) (sym is) (subst (λ s. AreEnough s after.graph most) (sym shape) (subst (λ h. AreEnough before.shape h most) (sym graph) enough));
+  exact = λ exact. absurd (true≢false (sym exact ∙ open_ended));
 }

@@ -6,3 +6,4 @@ pub mod Finding
 pub mod Keeping
 pub mod Beginning
 pub mod Counts
+pub mod Surely

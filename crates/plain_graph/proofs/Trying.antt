@@ -12,14 +12,15 @@ use Rattle.std.specs.FinMap.Entries.{below_all, is_sorted}
 use Rattle.std.proofs.lemmas.Bool.{and_parts, eqb-true}
 use Rattle.std.proofs.lemmas.List.{append-nil, drop_all}
 use Rattle.gdi_kinds.specs.declared.call.Call.{Call}
+use Rattle.gdi_kinds.specs.declared.reply.Reply.{Reply}
 use Rattle.rma_layout.specs.Shape.{Shape, reserved_blocks}
 use Rattle.rma_layout.specs.Placement.{Place, slot_of, home_of}
 use Rattle.rma_layout.specs.Ranges.{IsInRange}
 use Rattle.graph_model.specs.Maps.{Map, IsMap}
 use Rattle.graph_model.specs.Graph.{Graph, Vertex, Edge, EdgeKey, edge_cmp, vertex_at, edge_at, is_heavy}
 use Rattle.graph_model.specs.WellFormed.{IsWellFormed, EdgeFits}
-use Rattle.graph_model.specs.Calls.{graph_after_call}
-use Rattle.graph_model.specs.Transactions.{graph_after_calls}
+use Rattle.graph_model.specs.Calls.{graph_after_call, reply_to}
+use Rattle.graph_model.specs.Transactions.{graph_after_calls, replies_to_calls}
 use Rattle.graph_model.specs.Capacity as capacity
 use Rattle.graph_model.specs.Capacity.Object.{Reserved as OfReserved, OfVertex, OfHeavyEdge}
 use Rattle.graph_model.proofs.Entries.{All-map, never}
@@ -38,8 +39,8 @@ use Rattle.map_graph.specs.declared.undo.Undo.{Undo as OneUndo}
 use Rattle.plain_graph.specs.declared.growth.Growth.{Growth}
 use Rattle.plain_graph.specs.declared.trial.Trial.{Trial}
 use Rattle.plain_graph.specs.Touching.{spot_named, is_same_name, Marks, mark_of, AreTold}
-use Rattle.plain_graph.specs.Trials.{spot_of, IsGrowth, Tells}
-use Rattle.plain_graph.specs.Seen.{IsNamedThere, seen_as, with_before, IsSeen, AreSeen}
+use Rattle.plain_graph.specs.Trials.{spot_of, AreTouched, IsGrowth, Tells}
+use Rattle.plain_graph.specs.Seen.{IsNamedThere, seen_as, with_before, IsSeen, AreSeen, Shows}
 use Rattle.plain_graph.proofs.Marking.{told_none, told_more, spots_of, touched-marks, name_for, touched-name_for, apart-marks, each_marked}
 
 -- ---- a well-formed graph
@@ -275,16 +276,25 @@ module _ (shape : Shape) (g : Graph) (calls : List Call) (sound : AreSound shape
     each_grown growths seen.1,
   )
 
-  pub tells : (trial : Trial) (growths : List Growth) → trial.makes.items ≡ capacity.makes shape g calls → AreSeen shape after steps_of growths → trial.touched.items ≡ map (with_before shape g) growths → Tells shape g calls trial
-  tells trial growths made seen are =
-      let spots : map (spot_of shape) trial.touched.items ≡ map (spot_of shape) growths = ap (map (spot_of shape)) are ∙ spots-grown growths in
+  grown_are : (growths : List Growth) → AreSeen shape after steps_of growths → AreTouched shape g calls (map (with_before shape g) growths)
+  grown_are growths seen =
+      let spots : map (spot_of shape) (map (with_before shape g) growths) ≡ map (spot_of shape) growths = spots-grown growths in
       record {
         sound = sound;
-        makes = made;
         apart = subst AreApart (sym spots) seen.apart;
         cover = λ spot none. each_touches_all shape steps_of after spot (last_in_order shape g calls sound) (seen.cover spot (ap (λ ss. is_touched ss spot) (sym spots) ∙ none));
-        each = subst (AllByRecursion (IsGrowth shape g calls)) (sym are) (each_grown growths seen.each);
+        each = each_grown growths seen.each;
       }
+
+-- what calls touched is what they would touch
+pub shown_touched : (shape : Shape) (g : Graph) (calls : List Call) (made : List ℕ) (growths : List Growth) → Shows shape g calls made growths → AreTouched shape g calls (map (with_before shape g) growths)
+shown_touched shape g calls made growths shows = grown_are shape g calls shows.sound growths shows.seen
+
+pub tells : (shape : Shape) (g : Graph) (calls : List Call) (trial : Trial) (growths : List Growth) → Shows shape g calls trial.makes.items growths → trial.touched.items ≡ map (with_before shape g) growths → Tells shape g calls trial
+tells shape g calls trial growths shows are = record {
+  makes = shows.makes;
+  touched = subst (AreTouched shape g calls) (sym are) (shown_touched shape g calls trial.makes.items growths shows);
+}
 
 -- ---- call by call
 
@@ -306,11 +316,20 @@ one_more shape g now next calls left rest call made more journal longer well alo
   sound = λ rest_sound. along.sound (subst (AreSound shape now) (sym all) (sound_one now well, subst (λ h. AreSound shape h rest) is rest_sound));
 }
 
-pub all_told : (shape : Shape) (g now : Graph) (calls left : List Call) (journal : List Undo) (trial : Trial) (growths : List Growth) → IsWellFormed now → AreAlong shape g now calls left trial.makes.items journal → left ≡ []
-    → AreSeen shape now journal growths → trial.touched.items ≡ map (with_before shape g) growths → Tells shape g calls trial
-all_told shape g now calls left journal trial growths well along none seen are =
+pub reply_more : (shape : Shape) (now next : Graph) (left rest : List Call) (call : Call) (replies more all : List Reply) (reply : Reply) → left ≡ call ∷ rest → next ≡ graph_after_call shape now call
+    → reply ≡ reply_to shape now call → more ≡ replies ++ reply ∷ [] → replies ++ replies_to_calls shape now left ≡ all → more ++ replies_to_calls shape next rest ≡ all
+reply_more shape now next left rest call replies more all reply these after is longer so_far =
+    ap (λ rs. rs ++ replies_to_calls shape next rest) longer ∙ append_assoc replies (reply ∷ []) (replies_to_calls shape next rest)
+    ∙ ap (λ r. replies ++ (r ∷ replies_to_calls shape next rest)) is ∙ ap (λ h. replies ++ (reply_to shape now call ∷ replies_to_calls shape h rest)) after
+    ∙ ap (λ cs. replies ++ replies_to_calls shape now cs) (sym these) ∙ so_far
+
+pub all_shown : (shape : Shape) (g now : Graph) (calls left : List Call) (made : List ℕ) (journal : List Undo) (growths : List Growth) → IsWellFormed now → AreAlong shape g now calls left made journal → left ≡ []
+    → AreSeen shape now journal growths → Shows shape g calls made growths
+all_shown shape g now calls left made journal growths well along none seen =
     let graph : now ≡ graph_after_calls shape g calls = ap (graph_after_calls shape now) (sym none) ∙ along.graph in
-    let made : trial.makes.items ≡ capacity.makes shape g calls = sym (append-nil trial.makes.items) ∙ ap (λ cs. trial.makes.items ++ capacity.makes shape now cs) (sym none) ∙ along.makes in
     let noted : journal ≡ noted_along shape g calls = sym (append-nil journal) ∙ ap (λ cs. journal ++ noted_along shape now cs) (sym none) ∙ along.noted in
-    let sound : AreSound shape g calls = along.sound (subst (AreSound shape now) (sym none) (sound_one now well)) in
-    tells shape g calls sound trial growths made (subst (λ js. AreSeen shape (graph_after_calls shape g calls) js growths) noted (subst (λ h. AreSeen shape h journal growths) graph seen)) are
+    record {
+      sound = along.sound (subst (AreSound shape now) (sym none) (sound_one now well));
+      makes = sym (append-nil made) ∙ ap (λ cs. made ++ capacity.makes shape now cs) (sym none) ∙ along.makes;
+      seen = subst (λ js. AreSeen shape (graph_after_calls shape g calls) js growths) noted (subst (λ h. AreSeen shape h journal growths) graph seen);
+    }

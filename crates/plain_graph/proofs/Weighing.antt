@@ -53,7 +53,7 @@ module _ (shape : Shape) (rank : ℕ) (g : Graph) (calls : List Call) where
       (λ here. h.before ∙ ap (λ r. if is_object g (object_of growth.object) then blocks_of_object shape g r (object_of growth.object) else 0) here)
 
   -- what was there all along was there first
-  there_first : (cs : List Call) (object : Object) → list_all (λ k. is_object k object) (graphs_along shape g cs) ≡ true → is_object g object ≡ true
+  pub there_first : (cs : List Call) (object : Object) → list_all (λ k. is_object k object) (graphs_along shape g cs) ≡ true → is_object g object ≡ true
   there_first [] object all = (and_parts (is_object g object) true all).0
   there_first (c ∷ cs) object all = (and_parts (is_object g object) _ all).0
 

@@ -44,7 +44,7 @@ pub record AreSeen (shape : Shape) (g : Graph) (steps : List Undo) (growths : Li
   pub each : AllByRecursion (IsSeen shape g steps) growths
 
 -- what calls did: the makes in order, and each object that they touched once, as they left it
-pub record Shows (shape : Shape) (g : Graph) (calls : List Call) (makes : List ℕ) (growths : List Growth) : Type 0 where
+pub record Shows (shape : Shape) (g : Graph) (calls : List Call) (made : List ℕ) (growths : List Growth) : Type 0 where
   pub sound : AreSound shape g calls
-  pub makes : makes ≡ capacity.makes shape g calls
+  pub makes : made ≡ capacity.makes shape g calls
   pub seen : AreSeen shape (graph_after_calls shape g calls) (noted_along shape g calls) growths

@@ -39,11 +39,15 @@ pub record IsGrowth (shape : Shape) (g : Graph) (calls : List Call) (growth : Gr
   pub after : growth.after ≡ blocks_there shape (graph_after_calls shape g calls) growth.object
   pub stayed : growth.stayed ≡ list_all (λ k. is_object k (object_of growth.object)) (graphs_along shape g calls)
 
--- what calls would leave: the makes in order, and each object that they touch once
-pub record Tells (shape : Shape) (g : Graph) (calls : List Call) (trial : Trial) : Type 0 where
+-- each object that calls would touch, once
+pub record AreTouched (shape : Shape) (g : Graph) (calls : List Call) (growths : List Growth) : Type 0 where
   -- the graphs along are in order, and their edges have both ends
   pub sound : AreSound shape g calls
+  pub apart : AreApart (map (spot_of shape) growths)
+  pub cover : Cover shape g calls (map (spot_of shape) growths)
+  pub each : AllByRecursion (IsGrowth shape g calls) growths
+
+-- what calls would leave: the makes in order, and what they touch
+pub record Tells (shape : Shape) (g : Graph) (calls : List Call) (trial : Trial) : Type 0 where
   pub makes : trial.makes.items ≡ capacity.makes shape g calls
-  pub apart : AreApart (map (spot_of shape) trial.touched.items)
-  pub cover : Cover shape g calls (map (spot_of shape) trial.touched.items)
-  pub each : AllByRecursion (IsGrowth shape g calls) trial.touched.items
+  pub touched : AreTouched shape g calls trial.touched.items

@@ -32,8 +32,10 @@ pub(crate) fn run_on(
     ensures within { OnOk result (IsWithin map.new usage.new) }
 {
     if leaves(txn) {
-        return map.run(txn);
+        let replies = map.run(txn)?;
+        return Ok(replies);
     }
+    geometry.keeps_ranges();
     let attempt = attempt_calls(alloc, *geometry, map, txn.calls.as_slice())?;
     let most = raised(&usage.used, geometry, attempt.touched.as_slice())?;
     *usage = Usage::at_most(most);

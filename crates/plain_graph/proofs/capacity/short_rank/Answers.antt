@@ -15,7 +15,7 @@ returns c = λ g calls used told.
     sym c.in_default.is ∙ c.in_ok-rank.ensures.short g used ∙ ap (short_at_make shape g []) these in
     let made = c.in_ok-rank.ensures.taken c.in_default.is in
     c.first_short.ensures
-    ∙ commit_short shape g calls growths told.sound told.apart told.cover told.each (taken_on c.grow_each.new.taken)
+    ∙ commit_short shape g calls growths told.touched.sound told.touched.apart told.touched.cover told.touched.each (taken_on c.grow_each.new.taken)
     (λ rank below. c.in_ok-grow_each.ensures rank ∙ ap (λ gs. taken_on c.make_each.new.taken rank + amount_on rank growth_blocks gs) c.as_slice-2.ensures.value
     ∙ ap (λ n. n + amount_on rank growth_blocks growths)
     (made rank ∙ ap (λ n. n + times rank c.as_slice.result.now) (used rank below) ∙ ap (λ ms. blocks_used_on shape g rank + times rank ms) these))
