@@ -11,17 +11,20 @@ use Rattle.graph_model.specs.Graph.{Graph}
 use Rattle.graph_model.specs.Sizes.{quotient_up}
 use Rattle.graph_model.specs.Transactions.{graph_after_calls}
 use Rattle.graph_model.specs.Capacity.{words_of, blocks_of_object, blocks_used_on, blocks_needed_on, makes, full_rank}
+use Rattle.graph_undo.specs.Undo.{Undo}
+use Rattle.touched_objects.specs.Needed.{noted_along}
 use Rattle.touched_objects.proofs.NeededBlocks.{needed_by_touched}
 use Rattle.map_graph.specs.Named.{object_of, rank_in}
 use Rattle.plain_graph.specs.declared.growth.Growth.{Growth}
 use Rattle.plain_graph.specs.declared.rooms.Rooms.{Rooms}
 use Rattle.plain_graph.specs.Rooms.{taken_on}
-use Rattle.plain_graph.specs.Seen.{with_before}
+use Rattle.plain_graph.specs.Seen.{IsSeen, Shows, with_before}
 use Rattle.plain_graph.specs.Trials.{AreTouched, IsGrowth, spot_of}
-use Rattle.plain_graph.specs.Used.{AreEnough, amount_on, growth_blocks, most_blocks, times}
+use Rattle.plain_graph.specs.Used.{AreEnough, HaveRanks, amount_on, growth_blocks, most_blocks, times}
 use Rattle.plain_graph.proofs.Counts.{room_on_each}
 use Rattle.plain_graph.proofs.Keeping.{first_in_order}
-use Rattle.plain_graph.proofs.Shortage.{used_last}
+use Rattle.plain_graph.proofs.Shortage.{makes_below, used_last}
+use Rattle.plain_graph.proofs.Trying.{shown_touched}
 use Rattle.plain_graph.proofs.Weighing.{growth_amount, there_first}
 
 abbrev here : ℕ → (Growth → ℕ) → Growth → ℕ
@@ -116,3 +119,34 @@ module _ (shape : Shape) (g : Graph) (calls : List Call) where
     pub surely_enough : (used most : Rooms) → AreEnough shape g used → ((rank : ℕ) → taken_on most rank ≡ taken_on used rank + amount_on rank most_blocks growths)
         → AreEnough shape (graph_after_calls shape g calls) most
     surely_enough used most enough raised rank below = omega (arith, last_most rank, enough rank below, raised rank)
+
+-- ---- what calls did
+
+have_ranks : (shape : Shape) (h : Graph) (steps : List Undo) (growths : List Growth) → AllByRecursion (IsSeen shape h steps) growths → HaveRanks shape growths
+have_ranks shape h steps [] each = tt
+have_ranks shape h steps (x ∷ xs) each = (subst (λ n. n < shape.ranks) (sym each.0.rank) each.0.named.on, have_ranks shape h steps xs each.1)
+
+module _ (geometry shape : Shape) (g : Graph) (calls : List Call) (made : List ℕ) (growths : List Growth) (same : geometry ≡ shape) (shows : Shows shape g calls made growths) where
+  pub shown_ranks : HaveRanks geometry growths
+  shown_ranks = subst (λ s. HaveRanks s growths) (sym same) (have_ranks shape (graph_after_calls shape g calls) (noted_along shape g calls) growths shows.seen.each)
+
+  pub shown_makes : 0 < geometry.ranks → AllByRecursion (λ rank. rank < geometry.ranks) made
+  shown_makes some =
+      subst (λ s. AllByRecursion (λ rank. rank < s.ranks) made) (sym same)
+      (subst (AllByRecursion (λ rank. rank < shape.ranks)) (sym shows.makes) (makes_below shape g calls (subst (λ s. 0 < s.ranks) same some)))
+
+  pub shown_room : (txn : Txn) (used most : Rooms) → 0 < geometry.ranks → calls ≡ txn.calls → AreEnough shape g used
+      → ((rank : ℕ) → taken_on most rank ≡ taken_on used rank + amount_on rank most_blocks growths)
+      → ((rank : ℕ) → rank < geometry.ranks → taken_on most rank + times rank made ≤ geometry.blocks)
+      → full_rank shape g txn ≡ None
+  shown_room txn used most some these enough raised room =
+      surely_room shape g calls (map (with_before shape g) growths) (shown_touched shape g calls made growths shows) txn used most (subst (λ s. 0 < s.ranks) same some) (sym these) enough
+      (λ rank. raised rank ∙ ap (λ n. taken_on used rank + n) (sym (same_most shape g calls rank growths)))
+      (subst (λ ranks. (rank : ℕ) → rank < shape.ranks → taken_on most rank + times rank ranks ≤ shape.blocks) shows.makes
+      (subst (λ s. (rank : ℕ) → rank < s.ranks → taken_on most rank + times rank made ≤ s.blocks) same room))
+
+  pub shown_enough : (used most : Rooms) → AreEnough shape g used → ((rank : ℕ) → taken_on most rank ≡ taken_on used rank + amount_on rank most_blocks growths)
+      → AreEnough shape (graph_after_calls shape g calls) most
+  shown_enough used most enough raised =
+      surely_enough shape g calls (map (with_before shape g) growths) (shown_touched shape g calls made growths shows) used most enough
+      (λ rank. raised rank ∙ ap (λ n. taken_on used rank + n) (sym (same_most shape g calls rank growths)))

@@ -333,3 +333,6 @@ all_shown shape g now calls left made journal growths well along none seen =
       makes = sym (append-nil made) ∙ ap (λ cs. made ++ capacity.makes shape now cs) (sym none) ∙ along.makes;
       seen = subst (λ js. AreSeen shape (graph_after_calls shape g calls) js growths) noted (subst (λ h. AreSeen shape h journal growths) graph seen);
     }
+
+pub shown_there : (shape : Shape) (g : Graph) (calls : List Call) (made : List ℕ) (growths : List Growth) → Shows shape g calls made growths → AllByRecursion (λ growth. IsNamedThere shape growth.object) growths
+shown_there shape g calls made growths shows = All-map (IsSeen shape (graph_after_calls shape g calls) (noted_along shape g calls)) (λ growth. IsNamedThere shape growth.object) (λ _ is. is.named) growths shows.seen.each

@@ -30,10 +30,7 @@ impl Growth {
     pub(crate) fn most(&self) -> u64
         ensures { result ≡ most_blocks self.now }
     {
-        if self.stayed {
-            self.after.saturating_sub(1)
-        } else {
-            self.after
-        }
+        let first = if self.stayed { 1 } else { 0 };
+        self.after.saturating_sub(first)
     }
 }

@@ -16,7 +16,3 @@ short_rank-requires-clause-touched c =
     told_touched c.args.geometry.now c.args.map.now.graph c.as_slice.result.now c.in_ok-trial.trial
     (subst (λ s. Tells s c.args.map.now.graph c.as_slice.result.now c.in_ok-trial.trial) (sym c.requires.shape) c.in_ok-trial.ensures.tells)
 
-pub returns-clause-full : goal.returns-clause-full
-returns-clause-full c =
-    full_is c.args.geometry.now c.args.map.now.shape c.args.map.now.graph c.args.txn.now c.as_slice.result.now c.args.used.now c.in_ok-trial.trial _
-    c.requires.shape c.as_slice.ensures (sym c.leaves.ensures ∙ c.if-leaves.false) c.requires.kept.counted c.in_ok-trial.ensures.tells c.in_ok-short_rank.ensures
