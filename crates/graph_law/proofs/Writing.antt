@@ -1,5 +1,5 @@
 -- A call that changes some objects does to the store what it does to the graph.
-use Rattle.std.proofs.Common.{◌≡◌, ◌∙◌, ℕ, ◌+◌, ◌<◌, Bool, true, false, ◌&&◌, List, [], ◌∷◌, refl, sym, ap, subst}
+use Rattle.std.proofs.Common.{◌≡◌, ℕ, ◌+◌, ◌<◌, Bool, true, false, ◌&&◌, List, [], ◌∷◌, refl, sym, ap, subst}
 use Rattle.std.specs.Prelude.{◌==◌}
 use Rattle.std.specs.List.{AllByRecursion}
 use Rattle.std.proofs.lemmas.Bool.{and_parts, eqb-true, false≢true}
@@ -15,7 +15,7 @@ use Rattle.graph_model.specs.Capacity.{Object, Reserved, OfVertex, OfHeavyEdge, 
 use Rattle.graph_model.specs.WellFormed.{IsWellFormed}
 use Rattle.holder_codec.specs.Represents.{EdgeObjects, Represents, VertexObjects}
 use Rattle.object_view.specs.Change.{IsChange, IsGone, IsNotAmong, RankObject, same_object}
-use Rattle.object_view.specs.View.{IsOn, IsViewed, place_in}
+use Rattle.object_view.specs.View.{IsOn, place_in}
 use Rattle.object_view.proofs.Change.{changed_view}
 use Rattle.object_view.proofs.View.{viewed}
 use Rattle.object_view.proofs.Viewed.{represented}

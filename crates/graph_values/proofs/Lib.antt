@@ -1,3 +1,5 @@
 pub mod Spots
 pub mod Calling
 pub mod Unsetting
+pub mod ValueLists
+pub mod Typing

@@ -72,6 +72,7 @@ module _ {id : ℕ} {object : Place} {state : StoreState Noted} (ranges : IsInRa
   is_spot sound = record {
     place = is_unreserved ranges knows leads sound;
     block = is_block ranges knows leads sound;
+    leads = leads;
     vertex = knows_vertex;
   }
 
