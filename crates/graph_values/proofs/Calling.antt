@@ -1,27 +1,31 @@
 -- A call on the properties of one vertex: it looks up the type and the vertex, and then changes the vertex or is refused.
-use Rattle.std.proofs.Common.{◌≡◌, ◌≢◌, ◌∙◌, ℕ, Option, Some, None, is_some, sym, ap, subst, ◌⊎◌, inl, inr}
+use Rattle.std.proofs.Common.{◌≡◌, ◌≢◌, ◌∙◌, ℕ, Option, Some, None, Err, is_some, refl, sym, ap, subst, ◌⊎◌, inl, inr}
 use Rattle.gdi_kinds.specs.declared.call.Call.{Call}
 use Rattle.gdi_kinds.specs.declared.reply.Reply.{Reply}
-use Rattle.gdi_kinds.specs.declared.reply.Reply.TheVariants.{Done}
+use Rattle.gdi_kinds.specs.declared.reply.Reply.TheVariants.{Done, NoType, NoVertex}
 use Rattle.rma_layout.specs.Placement.{Place, bucket_of, metadata}
 use Rattle.rma_layout.specs.Ranges.{IsInRange}
 use Rattle.rma_layout.specs.Shape.{Shape}
 use Rattle.object_words.specs.Contents.{Agrees, Contents, IsByRisingObject, overlay, words_at}
-use Rattle.graph_model.specs.Calls.{graph_after_call, reply_to}
+use Rattle.graph_model.specs.Calls.{graph_after_call, reply_to, steps_of}
 use Rattle.graph_model.specs.Capacity.{make_of}
-use Rattle.graph_model.specs.Graph.{Graph, Vertex, vertex_at}
+use Rattle.graph_model.specs.Graph.{Graph, Name, Vertex, vertex_at}
+use Rattle.graph_model.specs.Lookups.{type_number}
 use Rattle.graph_model.specs.Maps.{at}
+use Rattle.graph_model.specs.Steps.{Answer, Step, ◌>>=◌, answer_of, found_or}
 use Rattle.graph_model.specs.VertexCalls.{with_vertex}
 use Rattle.graph_model.specs.WellFormed.{IsWellFormed}
 use Rattle.holder_codec.specs.Represents.{EdgeObjects, Represents, VertexObjects, object_of}
 use Rattle.holder_codec.specs.Vertex.{IsVertexHolder, vertex_words}
 use Rattle.object_store.specs.State.{StoreState}
 use Rattle.object_store.specs.Works.{At, Looks, Reaches}
+use Rattle.object_store.proofs.Works.{looks-then}
 use Rattle.held_objects.specs.declared.change.Change.{Change}
 use Rattle.held_objects.specs.declared.change.Change.TheVariants.{Made}
 use Rattle.held_objects.specs.Changes.{Changes, IfMade, IsHeldAs}
 use Rattle.held_objects.specs.Changes as held
 use Rattle.id_hash.specs.Buckets.{IsBucketFor}
+use Rattle.meta_tables.specs.declared.prop_type.PropType.{PropType}
 use Rattle.vertex_ops.specs.Vertices.{HeldVertex, holder_for, size}
 use Rattle.graph_law.specs.declared.law.Noted.{Noted}
 use Rattle.graph_law.specs.Calls.{AppliesCall, DoesCall}
@@ -29,7 +33,8 @@ use Rattle.graph_law.specs.Reach.{IsAsked, IsReached}
 use Rattle.graph_law.proofs.Doing.{leaves}
 use Rattle.graph_law.proofs.Looking.{bucket_reached, names_reached, vertex_reached}
 use Rattle.graph_law.proofs.VertexChanged.{vertex_did}
-use Rattle.graph_vertices.proofs.VertexHere.{agrees_before, object_here, vertex_here}
+use Rattle.graph_vertices.specs.Finding.{FindsType, IsTypeIn}
+use Rattle.graph_vertices.proofs.VertexHere.{agrees_before, none_here, object_here, vertex_here}
 use Rattle.graph_values.specs.Spot.{FindsSpot}
 use Rattle.graph_values.proofs.Spots.{held_at, held_here, holds_here}
 
@@ -147,3 +152,60 @@ module _ {call : Call} {id : ℕ} (asked : (g : Graph) → IsAsked g call id) (u
       ];
       room = λ most told g is rank makes. absurd (nowhere rank (sym (unmade old.shape g) ∙ makes));
     }
+
+-- ---- a call that looks up the type and the vertex first
+
+abbrev pub Finds : ℕ → Option ℕ → Option Vertex → (ℕ → Vertex → Step Answer) → Step Answer
+Finds id t o next = found_or NoType t >>= (λ n. found_or (NoVertex id) o >>= (λ vertex. next n vertex))
+
+module _ {call : Call} {id : ℕ} {name : Name} (asked : (g : Graph) → IsAsked g call id) (unmade : (shape : Shape) (g : Graph) → make_of shape g call ≡ None)
+    (next : Graph → ℕ → Vertex → Step Answer) (steps : (shape : Shape) (g : Graph) → steps_of shape g call ≡ Finds id (type_number g name) (vertex_at g id) (next g))
+    {old mid : StoreState Noted} {Makes : ℕ → Type 0} (ranges : IsInRange old.shape) (names : Reaches (At metadata old.shape) Makes old mid) where
+  steps_at : (g : Graph) (t : Option ℕ) (o : Option Vertex) → type_number g name ≡ t → vertex_at g id ≡ o → steps_of old.shape g call ≡ Finds id t o (next g)
+  steps_at g t o typed there = steps old.shape g ∙ (λ i. Finds id (typed i) (there i) (next g))
+
+  -- with these steps it leaves the graph, and is refused
+  ends_as : (g : Graph) (s : Step Answer) (refusal : Reply) → steps_of old.shape g call ≡ s → s ≡ Err refusal → (graph_after_call old.shape g call ≡ g) × (refusal ≡ reply_to old.shape g call)
+  ends_as g s refusal is fails = let e = is ∙ fails in (ap (λ s. (answer_of g s).graph) e, sym (ap (λ s. (answer_of g s).reply) e))
+
+  pub no_type_applied : FindsType name old mid None → AppliesCall call old mid NoType
+  no_type_applied typed = left_applied asked unmade typed.looks
+      (λ store g is agrees. ends_as g (Finds id None (vertex_at g id) (next g)) NoType (steps_at g None (vertex_at g id) (typed.type store g is agrees) refl) refl)
+      (reached_names asked unmade ranges names)
+
+  module _ {led : StoreState Noted} {Homes : ℕ → Type 0} {type : PropType} (typed : FindsType name old mid (Some type)) (bucket : Reaches (IsBucketFor id mid.shape) Homes mid led) where
+    pub no_vertex_applied : FindsSpot id mid led None → AppliesCall call old led (NoVertex id)
+    no_vertex_applied finds = left_applied asked unmade (looks-then typed.looks finds.looks)
+        (λ store g is agrees.
+        let none = none_here ranges is id (sym (spot_later typed.looks finds store g is agrees)) in
+        let known = typed.type store g is (agrees_before bucket.stays store agrees) in
+        ends_as g (Finds id (Some type.number) None (next g)) (NoVertex id) (steps_at g (Some type.number) None known.0 none) refl)
+        (reached_both asked unmade ranges names bucket)
+
+    module _ {object : Place} (finds : FindsSpot id mid led (Some object)) where
+      -- it is refused, whatever the vertex is
+      pub refused_applied : (refusal : Reply) → ((g : Graph) → IsTypeIn g name (Some type) → (vertex : Vertex) → next g type.number vertex ≡ Err refusal) → AppliesCall call old led refusal
+      refused_applied refusal fails = left_applied asked unmade (looks-then typed.looks finds.looks)
+          (λ store g is agrees.
+          let vertex = vertex_here ranges is id (sym (spot_later typed.looks finds store g is agrees)) in
+          let known = typed.type store g is (agrees_before bucket.stays store agrees) in
+          ends_as g (next g type.number vertex.0) refusal (steps_at g (Some type.number) (Some vertex.0) known.0 vertex.1) (fails g known vertex.0))
+          (reached_both asked unmade ranges names bucket)
+
+      -- the vertex is changed, or the call is refused for what the vertex is
+      pub changed_applied : (FitsSo : HeldVertex → Type 0) (change : HeldVertex → Change HeldVertex)
+          → ({contents : Contents} {g : Graph} (is : Represents old.shape contents g) (leads : at is.vertices id ≡ Some object) → IsTypeIn g name (Some type) → FitsSo (held_here ranges is id leads))
+          → {new : StoreState Noted} {reply : Reply} {Others : ℕ → Type 0}
+          → ({contents : Contents} {g : Graph} (is : Represents old.shape contents g) (before : Vertex) → IsTypeIn g name (Some type) → vertex_at g id ≡ Some before
+          → IsHeldAs IsVertexHolder vertex_words holder_for FitsSo object contents (held_at g is.vertices is.edges id before) → steps_of old.shape g call ≡ next g type.number before
+          → reply ≡ held.reply_to size (change (held_at g is.vertices is.edges id before))
+          → IsLeft call id old.shape reply change g is.vertices is.edges before ⊎ IsChanged call id old.shape reply change g is.vertices is.edges before)
+          → IsByRisingObject old.writes → IsByRisingObject new.writes → Reaches (At object led.shape) Others led new
+          → Changes (IsHeldAs IsVertexHolder vertex_words holder_for FitsSo object) size change led new reply → AppliesCall call old new reply
+      changed_applied FitsSo change fits ends ordered ordered_after reaches changes =
+          change_applied asked unmade FitsSo change ranges (looks-then typed.looks finds.looks) (spot_later typed.looks finds) (reached_both asked unmade ranges names bucket)
+          ordered ordered_after reaches changes
+          (λ store g is agrees leads. fits is leads (typed.type store g is (agrees_before bucket.stays store agrees)))
+          (λ store g is agrees before there holds answer.
+          let known = typed.type store g is (agrees_before bucket.stays store agrees) in
+          ends is before known there holds (steps_at g (Some type.number) (Some before) known.0 there) answer)

@@ -3,3 +3,4 @@ pub mod Calling
 pub mod Unsetting
 pub mod ValueLists
 pub mod Typing
+pub mod Setting

@@ -39,7 +39,7 @@ use Rattle.graph_vertices.specs.Finding.{FindsType, IsTypeIn}
 use Rattle.graph_vertices.proofs.VertexHere.{agrees_before, led_to, none_here, vertex_here}
 use Rattle.graph_values.specs.Spot.{FindsSpot}
 use Rattle.graph_values.specs.Typed.{HoldsTyped, IsTyped, longer}
-use Rattle.graph_values.proofs.Calling.{IsChanged, IsLeft, change_applied, left_applied, reached_both, reached_names, spot_later}
+use Rattle.graph_values.proofs.Calling.{Finds, IsChanged, IsLeft, changed_applied, refused_applied}
 use Rattle.graph_values.proofs.Spots.{held_at}
 use Rattle.graph_values.proofs.Typing.{typed_here}
 
@@ -96,75 +96,11 @@ Adds g id n value vertex right many =
     refused_if (not right) WrongKind >>= (λ _. refused_if (not many) NotMany >>= (λ _. Ends g id (record vertex { props = with_at vertex.props n (values_at vertex.props n ++ value ∷ []) })
     (is_too_large (words_of_vertex (with_vertex g id (record vertex { props = with_at vertex.props n (values_at vertex.props n ++ value ∷ []) })) id (record vertex { props = with_at vertex.props n (values_at vertex.props n ++ value ∷ []) })))))
 
-abbrev Finds : ℕ → Option ℕ → Option Vertex → (ℕ → Vertex → Step Answer) → Step Answer
-Finds id t o next = found_or NoType t >>= (λ n. found_or (NoVertex id) o >>= (λ vertex. next n vertex))
+abbrev pub set_next : ℕ → Value → Graph → ℕ → Vertex → Step Answer
+set_next id value g n vertex = Sets g id n value vertex (same_kind (kind_of value) (kind_at g n))
 
-abbrev set_next : Graph → ℕ → Value → ℕ → Vertex → Step Answer
-set_next g id value n vertex = Sets g id n value vertex (same_kind (kind_of value) (kind_at g n))
-
-abbrev add_next : Graph → ℕ → Value → ℕ → Vertex → Step Answer
-add_next g id value n vertex = Adds g id n value vertex (same_kind (kind_of value) (kind_at g n)) (is_marked g n)
-
--- ---- a call that looks up the type and the vertex first
-
-module _ {call : Call} {id : ℕ} {name : Name} (asked : (g : Graph) → IsAsked g call id) (unmade : (shape : Shape) (g : Graph) → make_of shape g call ≡ None)
-    (next : Graph → ℕ → Vertex → Step Answer) (steps : (shape : Shape) (g : Graph) → steps_of shape g call ≡ Finds id (type_number g name) (vertex_at g id) (next g))
-    {old mid : StoreState Noted} {Makes : ℕ → Type 0} (ranges : IsInRange old.shape) (names : Reaches (At metadata old.shape) Makes old mid) where
-  steps_at : (g : Graph) (t : Option ℕ) (o : Option Vertex) → type_number g name ≡ t → vertex_at g id ≡ o → steps_of old.shape g call ≡ Finds id t o (next g)
-  steps_at g t o typed there = steps old.shape g ∙ (λ i. Finds id (typed i) (there i) (next g))
-
-  goes_as : (g : Graph) (s : Step Answer) → steps_of old.shape g call ≡ s → graph_after_call old.shape g call ≡ (answer_of g s).graph
-  goes_as g s is = ap (λ s. (answer_of g s).graph) is
-
-  replies_as : (g : Graph) (s : Step Answer) → steps_of old.shape g call ≡ s → (answer_of g s).reply ≡ reply_to old.shape g call
-  replies_as g s is = sym (ap (λ s. (answer_of g s).reply) is)
-
-  pub no_type_applied : FindsType name old mid None → AppliesCall call old mid NoType
-  no_type_applied typed = left_applied asked unmade typed.looks
-      (λ store g is agrees.
-      let found = steps_at g None (vertex_at g id) (typed.type store g is agrees) refl in
-      (goes_as g (Finds id None (vertex_at g id) (next g)) found, replies_as g (Finds id None (vertex_at g id) (next g)) found))
-      (reached_names asked unmade ranges names)
-
-  module _ {led : StoreState Noted} {Homes : ℕ → Type 0} {type : PropType} (typed : FindsType name old mid (Some type)) (bucket : Reaches (IsBucketFor id mid.shape) Homes mid led) where
-
-
-
-    pub no_vertex_applied : FindsSpot id mid led None → AppliesCall call old led (NoVertex id)
-    no_vertex_applied finds = left_applied asked unmade (looks-then typed.looks finds.looks)
-        (λ store g is agrees.
-        let none = none_here ranges is id (sym (spot_later typed.looks finds store g is agrees)) in
-        let found = steps_at g (Some type.number) None (typed.type store g is (agrees_before bucket.stays store agrees)).0 none in
-        (goes_as g (Finds id (Some type.number) None (next g)) found, replies_as g (Finds id (Some type.number) None (next g)) found))
-        (reached_both asked unmade ranges names bucket)
-
-    module _ {object : Place} (finds : FindsSpot id mid led (Some object)) where
-      -- it is refused, whatever the vertex is
-      pub refused_applied : (refusal : Reply) → ((g : Graph) → IsTypeIn g name (Some type) → (vertex : Vertex) → (answer_of g (next g type.number vertex)).graph ≡ g)
-          → ((g : Graph) → IsTypeIn g name (Some type) → (vertex : Vertex) → (answer_of g (next g type.number vertex)).reply ≡ refusal) → AppliesCall call old led refusal
-      refused_applied refusal left replied = left_applied asked unmade (looks-then typed.looks finds.looks)
-          (λ store g is agrees.
-          let vertex = vertex_here ranges is id (sym (spot_later typed.looks finds store g is agrees)) in
-          let known = typed.type store g is (agrees_before bucket.stays store agrees) in
-          let found = steps_at g (Some type.number) (Some vertex.0) known.0 vertex.1 in
-          (goes_as g (next g type.number vertex.0) found ∙ left g known vertex.0, sym (replied g known vertex.0) ∙ replies_as g (next g type.number vertex.0) found))
-          (reached_both asked unmade ranges names bucket)
-
-      -- the vertex gets its values
-      pub put_applied : (change : HeldVertex → Change HeldVertex) (after : Vertex → Vertex) → ((vertex : Vertex) → (after vertex).labels ≡ vertex.labels)
-          → ((g : Graph) (vertices : VertexObjects) (edges : EdgeObjects) (vertex : Vertex) → change (held_at g vertices edges id vertex) ≡ Made (held_at g vertices edges id (after vertex)))
-          → ((g : Graph) → IsTypeIn g name (Some type) → (vertex : Vertex) → next g type.number vertex ≡ Ends g id (after vertex) (is_too_large (words_of_vertex (with_vertex g id (after vertex)) id (after vertex))))
-          → ((g : Graph) → IsWellFormed g → IsTypeIn g name (Some type) → (vertex : Vertex) → vertex_at g id ≡ Some vertex → IsWellFormed (with_vertex g id (after vertex)))
-          → {new : StoreState Noted} {reply : Reply} {Others : ℕ → Type 0} → IsByRisingObject old.writes → IsByRisingObject new.writes → Reaches (At object led.shape) Others led new
-          → Changes (HoldsTyped type object) size change led new reply → AppliesCall call old new reply
-      put_applied change after labels made ends well_after {new} {reply} ordered ordered_after reaches changes =
-          change_applied asked unmade (IsTyped type) change ranges (looks-then typed.looks finds.looks) (spot_later typed.looks finds) (reached_both asked unmade ranges names bucket)
-          ordered ordered_after reaches changes
-          (λ store g is agrees led_there. typed_here ranges is id led_there name type (typed.type store g is (agrees_before bucket.stays store agrees)))
-          (λ store g is agrees before there holds answer.
-          let known = typed.type store g is (agrees_before bucket.stays store agrees) in
-          put_ends call old.shape id change g is.vertices is.edges before (after before) (labels before) (made g is.vertices is.edges before) (well_after g is.well_formed known before there)
-          (steps_at g (Some type.number) (Some before) known.0 there ∙ ends g known before) answer)
+abbrev pub add_next : ℕ → Value → Graph → ℕ → Vertex → Step Answer
+add_next id value g n vertex = Adds g id n value vertex (same_kind (kind_of value) (kind_at g n)) (is_marked g n)
 
 -- ---- setting and adding
 
@@ -184,8 +120,53 @@ module _ {id : ℕ} {name : Name} {value : Value} where
   pub add_unmade : (shape : Shape) (g : Graph) → make_of shape g (Add id name value) ≡ None
   add_unmade shape g = refl
 
-  pub set_steps : (shape : Shape) (g : Graph) → steps_of shape g (Set id name value) ≡ Finds id (type_number g name) (vertex_at g id) (set_next g id value)
+  pub set_steps : (shape : Shape) (g : Graph) → steps_of shape g (Set id name value) ≡ Finds id (type_number g name) (vertex_at g id) (set_next id value g)
   set_steps shape g = refl
 
-  pub add_steps : (shape : Shape) (g : Graph) → steps_of shape g (Add id name value) ≡ Finds id (type_number g name) (vertex_at g id) (add_next g id value)
+  pub add_steps : (shape : Shape) (g : Graph) → steps_of shape g (Add id name value) ≡ Finds id (type_number g name) (vertex_at g id) (add_next id value g)
   add_steps shape g = refl
+
+module _ {id : ℕ} {name : Name} {value : Value} {old mid led : StoreState Noted} {Makes Homes : ℕ → Type 0} (ranges : IsInRange old.shape) (names : Reaches (At metadata old.shape) Makes old mid)
+    {type : PropType} (typed : FindsType name old mid (Some type)) (bucket : Reaches (IsBucketFor id mid.shape) Homes mid led) {object : Place} (finds : FindsSpot id mid led (Some object)) where
+  of_kind : (right : Bool) → same_kind (kind_of value) type.kind ≡ right → (g : Graph) → IsTypeIn g name (Some type) → same_kind (kind_of value) (kind_at g type.number) ≡ right
+  of_kind right is g known = ap (same_kind (kind_of value)) known.2 ∙ is
+
+  pub set_wrong_kind : same_kind (kind_of value) type.kind ≡ false → AppliesCall (Set id name value) old led WrongKind
+  set_wrong_kind wrong = refused_applied set_asked set_unmade (set_next id value) set_steps ranges names typed bucket finds WrongKind
+      (λ g known vertex. ap (Sets g id type.number value vertex) (of_kind false wrong g known))
+
+  pub add_wrong_kind : same_kind (kind_of value) type.kind ≡ false → AppliesCall (Add id name value) old led WrongKind
+  add_wrong_kind wrong = refused_applied add_asked add_unmade (add_next id value) add_steps ranges names typed bucket finds WrongKind
+      (λ g known vertex. ap (λ b. Adds g id type.number value vertex b (is_marked g type.number)) (of_kind false wrong g known))
+
+  pub add_not_many : same_kind (kind_of value) type.kind ≡ true → type.many ≡ false → AppliesCall (Add id name value) old led NotMany
+  add_not_many right single = refused_applied add_asked add_unmade (add_next id value) add_steps ranges names typed bucket finds NotMany
+      (λ g known vertex i. Adds g id type.number value vertex (of_kind true right g known i) (single_in g known i))
+    where
+      single_in : (g : Graph) → IsTypeIn g name (Some type) → is_marked g type.number ≡ false
+      single_in g known = known.1 ∙ single
+
+  module _ (fits : IsValue value) (right : same_kind (kind_of value) type.kind ≡ true) {new : StoreState Noted} {reply : Reply} {Others : ℕ → Type 0}
+      (ordered : IsByRisingObject old.writes) (ordered_after : IsByRisingObject new.writes) (reaches : Reaches (At object led.shape) Others led new) where
+    pub set_applied : Changes (HoldsTyped type object) size (valued type.number value) led new reply → AppliesCall (Set id name value) old new reply
+    set_applied changes =
+        changed_applied set_asked set_unmade (set_next id value) set_steps ranges names typed bucket finds (IsTyped type) (valued type.number value)
+        (λ is leads known. typed_here ranges is id leads name type known)
+        (λ {contents} {g} is before known there holds steps answer.
+        put_ends (Set id name value) old.shape id (valued type.number value) g is.vertices is.edges before (record before { props = with_at before.props type.number (value ∷ []) }) refl refl
+        (well.set_prop g id name type.number before value is.well_formed fits known.0 there (unless (of_kind true right g known)))
+        (steps ∙ ap (Sets g id type.number value before) (of_kind true right g known)) answer)
+        ordered ordered_after reaches changes
+
+    pub add_applied : type.many ≡ true → Changes (HoldsTyped type object) size (longer type.number value) led new reply → AppliesCall (Add id name value) old new reply
+    add_applied marked changes =
+        changed_applied add_asked add_unmade (add_next id value) add_steps ranges names typed bucket finds (IsTyped type) (longer type.number value)
+        (λ is leads known. typed_here ranges is id leads name type known)
+        (λ {contents} {g} is before known there holds steps answer.
+        put_ends (Add id name value) old.shape id (longer type.number value) g is.vertices is.edges before (record before { props = with_at before.props type.number (values_at before.props type.number ++ value ∷ []) }) refl refl
+        (well.add_prop g id name type.number before value is.well_formed fits known.0 there (unless (of_kind true right g known)) (unless (marked_in g known)))
+        (steps ∙ (λ i. Adds g id type.number value before (of_kind true right g known i) (marked_in g known i))) answer)
+        ordered ordered_after reaches changes
+      where
+        marked_in : (g : Graph) → IsTypeIn g name (Some type) → is_marked g type.number ≡ true
+        marked_in g known = known.1 ∙ marked

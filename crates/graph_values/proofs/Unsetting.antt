@@ -37,15 +37,18 @@ use Rattle.graph_law.specs.declared.law.Noted.{Noted}
 use Rattle.graph_law.specs.Calls.{AppliesCall}
 use Rattle.graph_law.specs.Reach.{IsAsked}
 use Rattle.graph_vertices.specs.Finding.{FindsType}
-use Rattle.graph_vertices.proofs.VertexHere.{agrees_before, none_here}
 use Rattle.graph_values.specs.Spot.{FindsSpot}
-use Rattle.graph_values.proofs.Calling.{IsChanged, IsLeft, change_applied, left_applied, reached_both, reached_names, spot_later}
+use Rattle.graph_values.proofs.Calling.{Finds, IsChanged, IsLeft, changed_applied}
 use Rattle.graph_values.proofs.Spots.{held_at, orderly_here}
 
 -- ---- how the call ends
 
-abbrev Unsets : ℕ → Graph → Option ℕ → Option Vertex → Step Answer
-Unsets id g t o = found_or NoType t >>= (λ n. found_or (NoVertex id) o >>= (λ vertex. refused_if (not (is_there vertex.props n)) NoProp >>= (λ _. leaves (with_vertex g id (record vertex { props = without vertex.props n })) Done)))
+-- what follows where the type and the vertex are there
+abbrev Ends : Graph → ℕ → ℕ → Vertex → Bool → Step Answer
+Ends g id n vertex there = refused_if (not there) NoProp >>= (λ _. leaves (with_vertex g id (record vertex { props = without vertex.props n })) Done)
+
+abbrev pub unset_next : ℕ → Graph → ℕ → Vertex → Step Answer
+unset_next id g n vertex = Ends g id n vertex (is_there vertex.props n)
 
 no_prop_apart : NoProp ≡ Done → ⊥
 no_prop_apart never = cc
@@ -56,26 +59,13 @@ fewer_words props n = sum_by-filter-le (λ entry. words_of_values entry.1) (λ e
 fits_still : (n : ℕ) → n ≤ most_words → is_too_large n ≡ false
 fits_still n few = grind (arith, nat_tests, few)
 
-module _ (shape : Shape) (id : ℕ) (name : Name) (g : Graph) (t : Option ℕ) (o : Option Vertex) (typed : type_number g name ≡ t) (there : vertex_at g id ≡ o) where
-  steps : steps_of shape g (Unset id name) ≡ Unsets id g t o
-  steps = λ i. Unsets id g (typed i) (there i)
-
-  goes_as : graph_after_call shape g (Unset id name) ≡ (answer_of g (Unsets id g t o)).graph
-  goes_as = ap (λ s. (answer_of g s).graph) steps
-
-  replies_as : reply_to shape g (Unset id name) ≡ (answer_of g (Unsets id g t o)).reply
-  replies_as = ap (λ s. (answer_of g s).reply) steps
-
-module _ (shape : Shape) (id n : ℕ) (name : Name) (g : Graph) (before : Vertex) {contents : Contents} (is : Represents shape contents g) (typed : type_number g name ≡ Some n) (there : vertex_at g id ≡ Some before)
-    {object : Place} (holds : HoldsVertex object contents (held_at g is.vertices is.edges id before)) {reply : Reply} where
+module _ (shape : Shape) (id n : ℕ) (name : Name) {contents : Contents} {g : Graph} (is : Represents shape contents g) (before : Vertex) (there : vertex_at g id ≡ Some before)
+    {object : Place} (holds : HoldsVertex object contents (held_at g is.vertices is.edges id before)) (steps : steps_of shape g (Unset id name) ≡ unset_next id g n before) {reply : Reply} where
   abbrev after : Vertex
   after = record before { props = without before.props n }
 
   abbrev held_after : HeldVertex
   held_after = held_at g is.vertices is.edges id after
-
-  abbrev Ends : Bool → Step Answer
-  Ends b = refused_if (not b) NoProp >>= (λ _. leaves (with_vertex g id after) Done)
 
   abbrev Makes : Bool → Change HeldVertex
   Makes b = cond b (Made held_after) (Refused NoProp)
@@ -92,11 +82,11 @@ module _ (shape : Shape) (id n : ℕ) (name : Name) (g : Graph) (before : Vertex
       → IsLeft (Unset id name) id shape reply (unvalued n) g is.vertices is.edges before ⊎ IsChanged (Unset id name) id shape reply (unvalued n) g is.vertices is.edges before
   unset_ends answer = cases (is_there before.props n) refl
     where
-      goes : (b : Bool) → is_there before.props n ≡ b → graph_after_call shape g (Unset id name) ≡ (answer_of g (Ends b)).graph
-      goes b is_so = goes_as shape id name g (Some n) (Some before) typed there ∙ ap (λ b. (answer_of g (Ends b)).graph) is_so
+      goes : (b : Bool) → is_there before.props n ≡ b → graph_after_call shape g (Unset id name) ≡ (answer_of g (Ends g id n before b)).graph
+      goes b is_so = ap (λ s. (answer_of g s).graph) (steps ∙ ap (Ends g id n before) is_so)
 
-      replies : (b : Bool) → is_there before.props n ≡ b → reply_to shape g (Unset id name) ≡ (answer_of g (Ends b)).reply
-      replies b is_so = replies_as shape id name g (Some n) (Some before) typed there ∙ ap (λ b. (answer_of g (Ends b)).reply) is_so
+      replies : (b : Bool) → is_there before.props n ≡ b → reply_to shape g (Unset id name) ≡ (answer_of g (Ends g id n before b)).reply
+      replies b is_so = ap (λ s. (answer_of g s).reply) (steps ∙ ap (Ends g id n before) is_so)
 
       made : (b : Bool) → is_there before.props n ≡ b → unvalued n (held_at g is.vertices is.edges id before) ≡ Makes b
       made b is_so = ap Makes is_so
@@ -120,33 +110,22 @@ module _ (shape : Shape) (id n : ℕ) (name : Name) (g : Graph) (before : Vertex
 
 -- ---- what it does
 
-module _ {id : ℕ} {name : Name} {old mid : StoreState Noted} {Makes : ℕ → Type 0} (ranges : IsInRange old.shape) (names : Reaches (At metadata old.shape) Makes old mid) where
-  asked : (g : Graph) → IsAsked g (Unset id name) id
-  asked g = (0, omega arith, refl)
+module _ {id : ℕ} {name : Name} where
+  pub unset_asked : (g : Graph) → IsAsked g (Unset id name) id
+  unset_asked g = (0, omega arith, refl)
 
-  unmade : (shape : Shape) (g : Graph) → make_of shape g (Unset id name) ≡ None
-  unmade shape g = refl
+  pub unset_unmade : (shape : Shape) (g : Graph) → make_of shape g (Unset id name) ≡ None
+  unset_unmade shape g = refl
 
-  pub no_type_applied : FindsType name old mid None → AppliesCall (Unset id name) old mid NoType
-  no_type_applied typed = left_applied asked unmade typed.looks
-      (λ store g is agrees.
-      let none = typed.type store g is agrees in
-      (goes_as old.shape id name g None (vertex_at g id) none refl, sym (replies_as old.shape id name g None (vertex_at g id) none refl)))
-      (reached_names asked unmade ranges names)
+  pub unset_steps : (shape : Shape) (g : Graph) → steps_of shape g (Unset id name) ≡ Finds id (type_number g name) (vertex_at g id) (unset_next id g)
+  unset_steps shape g = refl
 
-  module _ {led : StoreState Noted} {Homes : ℕ → Type 0} {type : PropType} (typed : FindsType name old mid (Some type)) (bucket : Reaches (IsBucketFor id mid.shape) Homes mid led) where
-    pub no_vertex_applied : FindsSpot id mid led None → AppliesCall (Unset id name) old led (NoVertex id)
-    no_vertex_applied finds = left_applied asked unmade (looks-then typed.looks finds.looks)
-        (λ store g is agrees.
-        let some = (typed.type store g is (agrees_before bucket.stays store agrees)).0 in
-        let none = none_here ranges is id (sym (spot_later typed.looks finds store g is agrees)) in
-        (goes_as old.shape id name g (Some type.number) None some none, sym (replies_as old.shape id name g (Some type.number) None some none)))
-        (reached_both asked unmade ranges names bucket)
-
-    pub unset_applied : {new : StoreState Noted} {object : Place} {reply : Reply} {Others : ℕ → Type 0} → FindsSpot id mid led (Some object) → IsByRisingObject old.writes → IsByRisingObject new.writes
-        → Reaches (At object led.shape) Others led new → Changes (HoldsVertex object) size (unvalued type.number) led new reply → AppliesCall (Unset id name) old new reply
-    unset_applied {new} {object} {reply} finds ordered ordered_after reaches changes =
-        change_applied asked unmade IsOrderly (unvalued type.number) ranges (looks-then typed.looks finds.looks) (spot_later typed.looks finds) (reached_both asked unmade ranges names bucket)
-        ordered ordered_after reaches changes (λ store g is agrees led_to. orderly_here ranges is id led_to)
-        (λ store g is agrees before there holds answer.
-        unset_ends old.shape id type.number name g before is (typed.type store g is (agrees_before bucket.stays store agrees)).0 there holds answer)
+module _ {id : ℕ} {name : Name} {old mid led : StoreState Noted} {Makes Homes : ℕ → Type 0} (ranges : IsInRange old.shape) (names : Reaches (At metadata old.shape) Makes old mid)
+    {type : PropType} (typed : FindsType name old mid (Some type)) (bucket : Reaches (IsBucketFor id mid.shape) Homes mid led) {object : Place} (finds : FindsSpot id mid led (Some object)) where
+  pub unset_applied : {new : StoreState Noted} {reply : Reply} {Others : ℕ → Type 0} → IsByRisingObject old.writes → IsByRisingObject new.writes → Reaches (At object led.shape) Others led new
+      → Changes (HoldsVertex object) size (unvalued type.number) led new reply → AppliesCall (Unset id name) old new reply
+  unset_applied ordered ordered_after reaches changes =
+      changed_applied unset_asked unset_unmade (unset_next id) unset_steps ranges names typed bucket finds IsOrderly (unvalued type.number)
+      (λ is leads known. orderly_here ranges is id leads)
+      (λ is before known there holds steps answer. unset_ends old.shape id type.number name is before there holds steps answer)
+      ordered ordered_after reaches changes
