@@ -4,3 +4,4 @@ pub mod Unsetting
 pub mod ValueLists
 pub mod Typing
 pub mod Setting
+pub mod Ways

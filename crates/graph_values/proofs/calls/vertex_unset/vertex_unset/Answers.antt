@@ -1,33 +1,32 @@
-use Rattle.std.proofs.Common.{rules, inl, inr, sym, subst}
-use Rattle.rma_layout.specs.Placement.{Place, home_of}
+use Rattle.std.proofs.Common.{rules, ◌∙◌, refl, subst}
 use Rattle.rma_layout.specs.Ranges.{IsInRange}
-use Rattle.holder_codec.specs.Represents.{IsUnreserved}
-use Rattle.object_store.specs.Works.{Nowhere}
-use Rattle.object_store.proofs.Works.{fell_wider, went_wider, went-fell, went-then}
-use Rattle.graph_vertices.specs.Finding.{FindsType, IsAbout}
+use Rattle.graph_law.proofs.Doing.{refuses_no_rank}
+use Rattle.gdi_kinds.specs.declared.call.Call.TheVariants.{Unset}
+use Rattle.graph_vertices.specs.Finding.{FindsType}
 use Rattle.graph_values.specs.Spot.{FindsSpot}
-use Rattle.graph_values.proofs.Unsetting.{no_type_applied, no_vertex_applied, unset_applied}
+use Rattle.graph_values.proofs.Calling.{no_type_applied, no_vertex_applied}
+use Rattle.graph_values.proofs.Unsetting.{unset_applied, unset_asked, unset_next, unset_steps, unset_unmade}
+use Rattle.graph_values.proofs.Ways.{fell_at_bucket, fell_on, went_both, went_on}
 use Rattle.graph_values.proofs.calls.vertex_unset.vertex_unset.Goals as goal
 
 pub returns-in-None-clause-applied : goal.returns-in-None-clause-applied
 returns-in-None-clause-applied g c =
     let ranges = subst IsInRange c.geometry-geometry.ensures c.keeps_ranges.ensures in
     let typed = subst (FindsType c.args.prop.now (g.S.Store.state c.args.store.now) (g.S.Store.state c.find_type.new.store)) c.in-None.is c.in_ok-named.ensures.found in
-    no_type_applied ranges c.in_ok-named.ensures.works.went.reaches typed
+    no_type_applied unset_asked unset_unmade (unset_next c.args.id) unset_steps ranges c.in_ok-named.ensures.works.went.reaches typed
 
 pub returns-in_err-found-clause-works : goal.returns-in_err-found-clause-works
 returns-in_err-found-clause-works g c =
-    let names = went_wider {Whole = IsAbout c.args.id} {Homes = Nowhere} (λ place is. inl is) (λ rank never. never) c.in_ok-named.ensures.works.went in
-    let fell = fell_wider {One = IsAbout c.args.id} {Homes = Nowhere} (λ place is. inr (inl is)) (λ rank never. never) c.in_err-found.ensures.works.fell in
-    let did = went-fell names fell in
+    let did = fell_at_bucket c.args.id c.in_ok-named.ensures.works.went c.in_err-found.ensures.works.fell in
+    search rules
+
+pub returns-in_err-found-clause-refused : goal.returns-in_err-found-clause-refused
+returns-in_err-found-clause-refused g c =
+    let did = refuses_no_rank {call = Unset c.args.id c.args.prop.now} (fell_at_bucket c.args.id c.in_ok-named.ensures.works.went c.in_err-found.ensures.works.fell).refused in
     search rules
 
 pub returns-in-None-found-clause-works : goal.returns-in-None-found-clause-works
-returns-in-None-found-clause-works g c = record {
-  went = went-then (went_wider {Whole = IsAbout c.args.id} {Homes = Nowhere} (λ place is. inl is) (λ rank never. never) c.in_ok-named.ensures.works.went)
-      (went_wider {Whole = IsAbout c.args.id} {Homes = Nowhere} (λ place is. inr (inl is)) (λ rank never. never) c.in_ok-found.ensures.works.went);
-  fell = tt;
-}
+returns-in-None-found-clause-works g c = record { went = went_both c.args.id c.in_ok-named.ensures.works.went c.in_ok-found.ensures.works.went; fell = tt }
 
 pub returns-in-None-found-clause-applied : goal.returns-in-None-found-clause-applied
 returns-in-None-found-clause-applied g c =
@@ -35,11 +34,44 @@ returns-in-None-found-clause-applied g c =
     let ranges = subst IsInRange c.geometry-geometry.ensures c.keeps_ranges.ensures in
     let typed = subst (FindsType c.args.prop.now (g.S.Store.state c.args.store.now) mid) c.in-Some.is c.in_ok-named.ensures.found in
     let found = subst (FindsSpot c.args.id mid (g.S.Store.state c.find_spot.new.store)) c.in-None-found.is c.in_ok-found.ensures.found in
-    no_vertex_applied ranges c.in_ok-named.ensures.works.went.reaches typed c.in_ok-found.ensures.works.went.reaches found
+    no_vertex_applied unset_asked unset_unmade (unset_next c.args.id) unset_steps ranges c.in_ok-named.ensures.works.went.reaches typed c.in_ok-found.ensures.works.went.reaches found
 
-pub clear_prop-requires : goal.clear_prop-requires
-clear_prop-requires g c =
+pub clear_prop-requires-clause-begun : goal.clear_prop-requires-clause-begun
+clear_prop-requires-clause-begun g c = c.in_ok-found.ensures.found.looks.stays.phase ∙ (c.in_ok-named.ensures.found.looks.stays.phase ∙ c.requires.may.writing refl)
+
+pub clear_prop-requires-clause-object : goal.clear_prop-requires-clause-object
+clear_prop-requires-clause-object g c =
+    let found = subst (FindsSpot c.args.id (g.S.Store.state c.find_type.new.store) (g.S.Store.state c.find_spot.new.store)) c.in-Some-found.is c.in_ok-found.ensures.found in
+    found.spot.block
+
+pub clear_prop-requires-clause-vertex : goal.clear_prop-requires-clause-vertex
+clear_prop-requires-clause-vertex g c =
+    let found = subst (FindsSpot c.args.id (g.S.Store.state c.find_type.new.store) (g.S.Store.state c.find_spot.new.store)) c.in-Some-found.is c.in_ok-found.ensures.found in
+    found.spot.vertex
+
+pub returns-in_err-reply-clause-works : goal.returns-in_err-reply-clause-works
+returns-in_err-reply-clause-works g c =
+    let found = subst (FindsSpot c.args.id (g.S.Store.state c.find_type.new.store) (g.S.Store.state c.find_spot.new.store)) c.in-Some-found.is c.in_ok-found.ensures.found in
+    let did = fell_on c.args.id found.spot.place (went_both c.args.id c.in_ok-named.ensures.works.went c.in_ok-found.ensures.works.went) c.in_err-reply.ensures.works.fell in
+    search rules
+
+pub returns-in_err-reply-clause-refused : goal.returns-in_err-reply-clause-refused
+returns-in_err-reply-clause-refused g c =
+    let found = subst (FindsSpot c.args.id (g.S.Store.state c.find_type.new.store) (g.S.Store.state c.find_spot.new.store)) c.in-Some-found.is c.in_ok-found.ensures.found in
+    let fell = fell_on c.args.id found.spot.place (went_both c.args.id c.in_ok-named.ensures.works.went c.in_ok-found.ensures.works.went) c.in_err-reply.ensures.works.fell in
+    let did = refuses_no_rank {call = Unset c.args.id c.args.prop.now} fell.refused in
+    search rules
+
+pub returns-clause-works : goal.returns-clause-works
+returns-clause-works g c =
+    let found = subst (FindsSpot c.args.id (g.S.Store.state c.find_type.new.store) (g.S.Store.state c.find_spot.new.store)) c.in-Some-found.is c.in_ok-found.ensures.found in
+    record { went = went_on c.args.id found.spot.place (went_both c.args.id c.in_ok-named.ensures.works.went c.in_ok-found.ensures.works.went) c.in_ok-reply.ensures.works.went; fell = tt }
+
+pub returns-clause-applied : goal.returns-clause-applied
+returns-clause-applied g c =
     let mid = g.S.Store.state c.find_type.new.store in
-    let led = g.S.Store.state c.find_spot.new.store in
-    let found = subst (FindsSpot c.args.id mid led) c.in-Some-found.is c.in_ok-found.ensures.found in
-    ?
+    let ranges = subst IsInRange c.geometry-geometry.ensures c.keeps_ranges.ensures in
+    let typed = subst (FindsType c.args.prop.now (g.S.Store.state c.args.store.now) mid) c.in-Some.is c.in_ok-named.ensures.found in
+    let found = subst (FindsSpot c.args.id mid (g.S.Store.state c.find_spot.new.store)) c.in-Some-found.is c.in_ok-found.ensures.found in
+    let did = c.in_ok-reply.ensures in
+    unset_applied ranges c.in_ok-named.ensures.works.went.reaches typed c.in_ok-found.ensures.works.went.reaches found c.requires.stands.ordered did.works.went.keeps.sound.writes_in_order did.works.went.reaches did.unvalued
