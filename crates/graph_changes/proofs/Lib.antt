@@ -1,3 +1,2 @@
-pub mod Temp
 pub mod NewVertex
 pub mod MakesVertex

@@ -50,7 +50,8 @@ use Rattle.graph_law.proofs.Counting.{makes_one}
 use Rattle.graph_law.proofs.Doing.{is_there, made_where_named}
 use Rattle.graph_law.proofs.Looking.{agrees_still, bucket_reached, left_applied}
 use Rattle.graph_law.proofs.Writing.{change_does}
-use Rattle.graph_changes.proofs.Temp.{is_led, agrees_before}
+use Rattle.graph_vertices.proofs.Looking.{is_led}
+use Rattle.graph_vertices.proofs.VertexHere.{agrees_before}
 use Rattle.graph_changes.proofs.NewVertex.{found_here, new_is_fresh, new_vertex_change, touched_by}
 
 -- ---- how the call ends

@@ -1,0 +1,29 @@
+use Rattle.graph_law.proofs.Standing.{stands_first, stands_still}
+use Rattle.call_tests.proofs.vertices.make_and_ask.Goals as goal
+
+pub make_vertex-requires-clause-stands : goal.make_vertex-requires-clause-stands
+make_vertex-requires-clause-stands g c = stands_first _ c.in_ok-begin.ensures.done.wrote_nothing
+
+pub make_vertex-requires-2-clause-stands : goal.make_vertex-requires-2-clause-stands
+make_vertex-requires-2-clause-stands g c =
+    let begun = stands_first _ c.in_ok-begin.ensures.done.wrote_nothing in
+    let made = c.in_ok-made.ensures in
+    stands_still made.works.went.reaches.stays made.works.went.keeps.sound.writes_in_order made.applied begun
+
+pub has_vertex-requires-clause-stands : goal.has_vertex-requires-clause-stands
+has_vertex-requires-clause-stands g c =
+    let begun = stands_first _ c.in_ok-begin.ensures.done.wrote_nothing in
+    let made = c.in_ok-made.ensures in
+    let after_made = stands_still made.works.went.reaches.stays made.works.went.keeps.sound.writes_in_order made.applied begun in
+    let again = c.in_ok-again.ensures in
+    stands_still again.works.went.reaches.stays again.works.went.keeps.sound.writes_in_order again.applied after_made
+
+pub vertex_tags-requires-clause-stands : goal.vertex_tags-requires-clause-stands
+vertex_tags-requires-clause-stands g c =
+    let begun = stands_first _ c.in_ok-begin.ensures.done.wrote_nothing in
+    let made = c.in_ok-made.ensures in
+    let after_made = stands_still made.works.went.reaches.stays made.works.went.keeps.sound.writes_in_order made.applied begun in
+    let again = c.in_ok-again.ensures in
+    let after_again = stands_still again.works.went.reaches.stays again.works.went.keeps.sound.writes_in_order again.applied after_made in
+    let has = c.in_ok-has.ensures in
+    stands_still has.works.went.reaches.stays has.works.went.keeps.sound.writes_in_order has.applied after_again
