@@ -5,3 +5,4 @@ pub mod InSlots
 pub mod Tagged
 pub mod Orders
 pub mod Listing
+pub mod Retagged

@@ -59,7 +59,7 @@ module _ (shape : Shape) (place : Place) where
         | false ↦ rest
       ]
 
-  spelled_in : (vs : Map ℕ Vertex) (labels : List ℕ) → flat_map (pairs_of_label shape vs place) labels ≡ flat_map index_entry_words (filter is_here (flat_map (tagged_with vs) labels))
+  pub spelled_in : (vs : Map ℕ Vertex) (labels : List ℕ) → flat_map (pairs_of_label shape vs place) labels ≡ flat_map index_entry_words (filter is_here (flat_map (tagged_with vs) labels))
   spelled_in vs [] = refl
   spelled_in vs (label ∷ labels) =
       flat_map-cons (pairs_of_label shape vs place) label labels
@@ -121,7 +121,7 @@ module _ (vs : Map ℕ Vertex) where
       subst (AllAbove (one, k)) (sym (flat_map-cons (tagged_with vs) from (range_with_len (from + 1) many)))
       (above_label_other one from k vs _ less (above_all one k (from + 1) many (omega arith)))
 
-  rise_all : is_sorted nat_cmp vs ≡ true → (from many : ℕ) → Rise (flat_map (tagged_with vs) (range_with_len from many))
+  pub rise_all : is_sorted nat_cmp vs ≡ true → (from many : ℕ) → Rise (flat_map (tagged_with vs) (range_with_len from many))
   rise_all sorted from zero = refl
   rise_all sorted from (suc many) =
       subst Rise (sym (flat_map-cons (tagged_with vs) from (range_with_len (from + 1) many)))
