@@ -1,4 +1,0 @@
-pub mod Records
-pub mod EdgeHere
-pub mod Showing
-pub mod Getting
