@@ -1,0 +1,4 @@
+pub mod Records
+pub mod EdgeHere
+pub mod Showing
+pub mod Getting

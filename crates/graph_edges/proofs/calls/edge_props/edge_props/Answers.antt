@@ -1,0 +1,55 @@
+use Rattle.std.proofs.Common.{rules, arith, inl, refl, subst}
+use Rattle.gdi_kinds.specs.declared.call.Call.TheVariants.{EProps}
+use Rattle.gdi_kinds.specs.declared.reply.Reply.TheVariants as reply
+use Rattle.rma_layout.specs.Ranges.{IsInRange}
+use Rattle.graph_model.specs.Lookups.{lines_of_props}
+use Rattle.object_store.specs.Works.{Nowhere}
+use Rattle.object_store.proofs.Works.{fell_wider, went_wider, went-fell, went-gave_up, went-then}
+use Rattle.graph_law.proofs.Doing.{refuses_no_rank}
+use Rattle.graph_vertices.specs.Finding.{IsAbout}
+use Rattle.graph_edges.specs.Finding.{FindsEdge}
+use Rattle.graph_edges.proofs.Showing.{props_known, lines_shown, refused_applied, shown_applied}
+use Rattle.graph_edges.proofs.calls.edge_props.edge_props.Goals as goal
+
+pub returns-in-Err-clause-applied : goal.returns-in-Err-clause-applied
+returns-in-Err-clause-applied g c =
+    let found = subst (FindsEdge c.args.source c.args.ordinal (g.S.Store.state c.args.store.now) (g.S.Store.state c.find_edge.new.store)) c.in-Err.is c.in_ok-found.ensures.found in
+    refused_applied (subst IsInRange c.geometry-geometry.ensures c.keeps_ranges.ensures) (EProps c.args.source c.args.ordinal) (λ h. (0, omega arith, refl)) (λ h edge. reply.Props (lines_of_props h edge.props)) (λ h. refl) found
+
+pub returns-in_err-names-clause-works : goal.returns-in_err-names-clause-works
+returns-in_err-names-clause-works g c =
+    let did = went-fell c.in_ok-found.ensures.works.went (fell_wider {One = IsAbout c.args.source} {Homes = Nowhere} (λ place is. inl is) (λ rank never. never) c.in_err-names.ensures.works.fell) in
+    search rules
+
+pub returns-in_err-names-clause-refused : goal.returns-in_err-names-clause-refused
+returns-in_err-names-clause-refused g c =
+    let fell = went-fell c.in_ok-found.ensures.works.went (fell_wider {One = IsAbout c.args.source} {Homes = Nowhere} (λ place is. inl is) (λ rank never. never) c.in_err-names.ensures.works.fell) in
+    let did = refuses_no_rank {call = EProps c.args.source c.args.ordinal} fell.refused in
+    search rules
+
+pub lines_of-requires : goal.lines_of-requires
+lines_of-requires g c =
+    let found = subst (FindsEdge c.args.source c.args.ordinal (g.S.Store.state c.args.store.now) (g.S.Store.state c.find_edge.new.store)) c.in-Ok.is c.in_ok-found.ensures.found in
+    props_known (subst IsInRange c.geometry-geometry.ensures c.keeps_ranges.ensures) found c.in_ok-names.ensures.found c.requires.stands c.in_ok-names.ensures.works.went.keeps.sound
+
+pub returns-in-Ok-clause-works : goal.returns-in-Ok-clause-works
+returns-in-Ok-clause-works g c = record {
+  went = went-then c.in_ok-found.ensures.works.went (went_wider {Whole = IsAbout c.args.source} {Homes = Nowhere} (λ place is. inl is) (λ rank never. never) c.in_ok-names.ensures.works.went);
+  fell = tt;
+}
+
+pub returns-in-Ok-clause-applied : goal.returns-in-Ok-clause-applied
+returns-in-Ok-clause-applied g c =
+    let found = subst (FindsEdge c.args.source c.args.ordinal (g.S.Store.state c.args.store.now) (g.S.Store.state c.find_edge.new.store)) c.in-Ok.is c.in_ok-found.ensures.found in
+    shown_applied (subst IsInRange c.geometry-geometry.ensures c.keeps_ranges.ensures) (EProps c.args.source c.args.ordinal) (λ h. (0, omega arith, refl)) (λ h edge. reply.Props (lines_of_props h edge.props)) (λ h. refl)
+    found c.in_ok-names.ensures.found c.in_ok-names.ensures.works.went.reaches (λ h vertices edges edge named held. lines_shown h c.args.source c.args.ordinal edge named held c.in-Ok-2.ensures)
+
+pub returns-clause-works : goal.returns-clause-works
+returns-clause-works g c =
+    let names = went_wider {Whole = IsAbout c.args.source} {Homes = Nowhere} (λ place is. inl is) (λ rank never. never) c.in_ok-names.ensures.works.went in
+    record { went = tt; fell = went-gave_up (went-then c.in_ok-found.ensures.works.went names) c.give_up.ensures }
+
+pub returns-clause-refused : goal.returns-clause-refused
+returns-clause-refused g c =
+    let names = went_wider {Whole = IsAbout c.args.source} {Homes = Nowhere} (λ place is. inl is) (λ rank never. never) c.in_ok-names.ensures.works.went in
+    refuses_no_rank {call = EProps c.args.source c.args.ordinal} (went-gave_up (went-then c.in_ok-found.ensures.works.went names) c.give_up.ensures).refused

@@ -1,0 +1,4 @@
+pub(crate) mod edge_get;
+pub(crate) mod edge_props;
+pub(crate) mod edge_tags;
+pub(crate) mod edge_target;
