@@ -88,9 +88,9 @@ module _ {txn : Txn} {old now : StoreState Noted} where
     none_told : (most : ℕ → ℕ) → None ≡ Some most → ⊥
     none_told most never = cc
 
-    as_untold : (ended : Ended) → EndsAs txn now new ended → EndsAs txn (untold old) new ended
-    as_untold (Wrote number replies) did = absurd (false≢true (sym lost.anew.looks ∙ did.writes))
-    as_untold (Read place replies) did = record {
+    how_untold : (ended : Ended) → EndsAs txn now new ended → EndsAs txn (untold old) new ended
+    how_untold (Wrote number replies) did = absurd (false≢true (sym lost.anew.looks ∙ did.writes))
+    how_untold (Read place replies) did = record {
       commits = did.commits;
       looks = did.looks;
       whole = did.whole;
@@ -98,11 +98,11 @@ module _ {txn : Txn} {old now : StoreState Noted} where
       keeps = commits_untold did.keeps;
       ended = did.ended;
     }
-    as_untold Aborted did = record { aborts = did.aborts; left = aborts_untold did.left }
+    how_untold Aborted did = record { aborts = did.aborts; left = aborts_untold did.left }
 
     ends_untold : {ended : Ended} → Ends txn now new ended → Ends txn (untold old) new ended
     ends_untold {ended} ends = record {
-      as = as_untold ended ends.as;
+      how = how_untold ended ends.how;
       room = record { none = λ most told g is. absurd (none_told most told) };
     }
 

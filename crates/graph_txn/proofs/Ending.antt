@@ -34,7 +34,7 @@ use Rattle.graph_txn.specs.Room.{HasRoom, LacksRoom, overfull_at_make, overfull_
 use Rattle.graph_txn.proofs.Going.{RoomIn, RunsOn, commits-then}
 use Rattle.graph_txn.proofs.Needs.{stands_fits, uses_same}
 use Rattle.graph_txn.proofs.Room.{RoomSoFar, room_refused}
-use Rattle.graph_txn.proofs.Through.{prefix_length, reads_looks, through-then, through_begun}
+use Rattle.graph_txn.proofs.Through.{idle_writes_not, prefix_length, reads_looks, through, through-then, through_begun}
 
 names_apart : (rank : ℕ) → names_nothing ≡ names_rank rank → ⊥
 names_apart rank never = cc
@@ -305,6 +305,9 @@ module _ {reaches : Call → Shape → Place → Type 0} {txn : Txn} {replies : 
           (subst (λ (r : ℕ). IsFirstWithoutBlocks mid.shape (committed mid) mid.writes r) (rank_same other rank (sym is ∙ named)) first)
 
 -- the beginning was refused
+pub begin_keeps : {txn : Txn} {writing : Bool} {old new : StoreState Noted} → writing ≡ is_writing txn → old.phase ≡ Idle → Continues Fits old new → (writing ≡ false → 0 < old.tries → new.takes ≡ old.takes) → KeepsThrough txn old new
+begin_keeps {old = old} same idle keeps free = through (λ _. idle_writes_not old.phase idle) (λ looks. free (same ∙ looks)) keeps
+
 pub begin_refused : {reaches : Call → Shape → Place → Type 0} {txn : Txn} {writing : Bool} {old new : StoreState Noted} {said : Said} → writing ≡ is_writing txn → RefusesBegin writing old new said → IsRefused reaches txn old new said
 begin_refused {said = said} same did = record {
   aborted = did.aborted;

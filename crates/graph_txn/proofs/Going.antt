@@ -1,5 +1,5 @@
 -- What a transaction keeps from its beginning to its last call, and where it stands then.
-use Rattle.std.proofs.Common.{◌≡◌, ◌≢◌, ◌∙◌, ℕ, ◌+◌, ◌<◌, Bool, true, false, ◌||◌, List, [], ◌∷◌, ◌++◌, length, Option, Some, None, IsSome, refl, sym, ap, subst, arith, ◌⊎◌, inl, inr, drop, get_or}
+use Rattle.std.proofs.Common.{◌≡◌, ◌≢◌, ◌∙◌, ℕ, ◌+◌, ◌<◌, ◌≤◌, Bool, true, false, ◌||◌, List, [], ◌∷◌, ◌++◌, length, Option, Some, None, IsSome, refl, sym, ap, subst, arith, ◌⊎◌, inl, inr, drop, get_or}
 use Rattle.std.specs.Prelude.{is_some}
 use Rattle.std.specs.List.{AllByRecursion, Contains, list_any}
 use Rattle.std.proofs.lemmas.Bool.{false≢true}
@@ -11,11 +11,13 @@ use Rattle.gdi_kinds.specs.declared.txn.Txn.{Txn}
 use Rattle.gdi_kinds.specs.Calls.{is_writing, is_writing_call}
 use Rattle.rma_layout.specs.Shape.{Shape}
 use Rattle.rma_layout.specs.Placement.{Place}
+use Rattle.rma_layout.specs.Ranges.{IsInRange}
 use Rattle.object_words.specs.Contents.{Contents, Agrees, words_at}
 use Rattle.object_words.specs.Entries.{Entry, store_after}
 use Rattle.graph_model.specs.Graph.{Graph}
 use Rattle.graph_model.specs.Capacity.{make_of}
 use Rattle.holder_codec.specs.Represents.{Represents}
+use Rattle.object_store.specs.declared.phase.Phase.TheVariants.{Idle, Reading, Writing}
 use Rattle.object_store.specs.State.{StoreState, begun, committed}
 use Rattle.object_store.specs.Sound.{Continues, KeepsCommits, StaysBegun}
 use Rattle.object_store.specs.Calls.{Begins, made_so_far}
@@ -132,6 +134,20 @@ module _ {reaches : Call → Shape → Place → Type 0} {txn : Txn} {call : Cal
           let next : RoomSoFar mid.shape txn.calls rest (committed mid) new.writes g most = room_next some so_far (applies.room most told_mid so_far.now so_far.represents) did.represents did.made in
           subst (λ (shape : Shape). RoomSoFar shape txn.calls rest (committed new) new.writes g most) (sym keeps.shape)
           (subst (λ (history : List (Entry Noted)). RoomSoFar mid.shape txn.calls rest (store_after history) new.writes g most) (sym seen) next)
+
+-- ---- the phase, and the ranks
+
+pub begun_idle : {writing : Bool} {state : StoreState Noted} → state.phase ≡ begun writing → state.phase ≢ Idle
+begun_idle {writing} {state} is = is_begun writing state.phase is
+
+pub begun_reading : {writing : Bool} {state : StoreState Noted} → state.phase ≡ begun writing → writing ≡ false → state.phase ≡ Reading
+begun_reading is looks = is ∙ ap begun looks
+
+pub begun_writing : {writing : Bool} {state : StoreState Noted} → state.phase ≡ begun writing → writing ≡ true → state.phase ≡ Writing
+begun_writing is writes = is ∙ ap begun writes
+
+pub some_ranks : {shape : Shape} → IsInRange shape → 0 < shape.ranks
+some_ranks ranges = omega (arith, ranges.ranks)
 
 -- ---- the list of calls
 

@@ -119,7 +119,7 @@ room_next {shape} {calls} {rest} {call} {store} {before} {after} {g} {most} some
 pub room_refused : {shape : Shape} {calls rest : List Call} {call : Call} {store before : Contents} {g : Graph} {most : ℕ → ℕ} {rank : ℕ} → 0 < shape.ranks
     → (so_far : RoomSoFar shape calls (call ∷ rest) store before g most) → make_of shape so_far.now call ≡ Some rank → made_objects shape store before rank ≡ most rank
     → overfull_at_make most [] (makes shape g calls) ≡ Some rank
-room_refused {shape} {call = call} {rest = rest} {most = most} {rank = rank} some so_far is full =
+room_refused {shape = shape} {rest = rest} {call = call} {most = most} {rank = rank} some so_far is full =
     so_far.short ∙ (ap (λ m. overfull_at_make most so_far.earlier (option_to_list m ++ makes shape (graph_after_call shape so_far.now call) rest)) is
     ∙ ap (λ b. cond b (overfull_at_make most (rank ∷ so_far.earlier) (makes shape (graph_after_call shape so_far.now call) rest)) (Some rank))
     (is_not_below (count_of so_far.earlier rank) (most rank) (so_far.counts rank (make_below shape so_far.now call rank some is) ∙ full)))

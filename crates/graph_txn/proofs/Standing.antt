@@ -1,5 +1,5 @@
 -- Where a transaction stands after some of its calls: what is left gives what the whole gives.
-use Rattle.std.proofs.Common.{◌≡◌, ◌∙◌, ℕ, zero, suc, ◌+◌, ◌<◌, Bool, true, false, ◌&&◌, cond, List, [], ◌∷◌, ◌++◌, refl, sym, ap, subst, arith}
+use Rattle.std.proofs.Common.{◌≡◌, ◌∙◌, ℕ, zero, suc, ◌+◌, ◌<◌, Bool, true, false, not, ◌&&◌, cond, List, [], ◌∷◌, ◌++◌, refl, sym, ap, subst, arith}
 use Rattle.std.specs.Prelude.{count_by, ◌==◌, is_some}
 use Rattle.std.specs.Option.{option_to_list}
 use Rattle.std.specs.List.{list_all}
@@ -59,7 +59,7 @@ and_false false = refl
 pub none_made : (shape : Shape) (store : Contents) (rank : ℕ) → made_objects shape store [] rank ≡ 0
 none_made shape store rank = total_zero shape.blocks _ (λ block. one_false (is_reserved shape block) (is_empty (content_of store (on_rank rank block))))
   where
-    one_false : (r e : Bool) → one_if (cond r false true && e && false) ≡ 0
+    one_false : (r e : Bool) → one_if (not r && e && false) ≡ 0
     one_false true true = refl
     one_false true false = refl
     one_false false true = refl

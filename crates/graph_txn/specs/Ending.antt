@@ -57,7 +57,7 @@ EndsAs txn old new Aborted = HasAborted txn old new
 
 -- a transaction that wasn't refused
 pub record Ends (txn : Txn) (old new : StoreState Noted) (ended : Ended) : Type 0 where
-  pub as : EndsAs txn old new ended
+  pub how : EndsAs txn old new ended
   -- a store that tells its most would have refused it by the name of a rank without room
   pub room : HasRoom txn old
 

@@ -23,6 +23,8 @@ pub fn run_txn<A: Applies, S: Store<GraphLaw>>(
     store: &mut S,
     txn: &Txn,
 ) -> Result<Ended, S::Refused>
+where
+    S::Refused: Drop,
     requires idle { (S.state store.old).phase ≡ Idle }
     requires local { txn.now.whole ≡ false }
     requires taken { AllByRecursion (λ call. A.takes call ≡ true) txn.now.calls }
