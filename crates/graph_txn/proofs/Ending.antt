@@ -53,18 +53,20 @@ find_none p start (suc n) fails =
     ap (λ b. cond b (Some start) (prelude.find p (range_with_len (start + 1) n))) (fails start (omega arith) (omega arith))
     ∙ find_none p (start + 1) n (λ r above below. fails r (omega (arith, above)) (omega (arith, below)))
 
+here_or_later : (start rank : ℕ) → start ≤ rank → (start ≡ rank) ⊎ (start < rank)
+here_or_later start rank above = grind arith
+
+find_from : (p : ℕ → Bool) (start n rank : ℕ) → p rank ≡ true → (start < rank → p start ≡ false) → (start < rank → prelude.find p (range_with_len (start + 1) n) ≡ Some rank) → (start ≡ rank) ⊎ (start < rank)
+    → prelude.find p (range_with_len start (suc n)) ≡ Some rank
+find_from p start n rank passes fails later (inl here) = ap (λ b. cond b (Some start) (prelude.find p (range_with_len (start + 1) n))) (ap p here ∙ passes) ∙ ap (λ r. Some r) here
+find_from p start n rank passes fails later (inr above) = ap (λ b. cond b (Some start) (prelude.find p (range_with_len (start + 1) n))) (fails above) ∙ later above
+
 find_first : (p : ℕ → Bool) (start n rank : ℕ) → start ≤ rank → rank < start + n → p rank ≡ true → ((r : ℕ) → start ≤ r → r < rank → p r ≡ false) → prelude.find p (range_with_len start n) ≡ Some rank
 find_first p start zero rank above below passes fails = absurd (omega (arith, above, below))
-find_first p start (suc n) rank above below passes fails = by_start (here_or_later start rank above)
-  where
-    here_or_later : (start rank : ℕ) → start ≤ rank → (start ≡ rank) ⊎ (start < rank)
-    here_or_later start rank above = grind arith
-
-    by_start : (start ≡ rank) ⊎ (start < rank) → prelude.find p (range_with_len start (suc n)) ≡ Some rank
-    by_start (inl here) = ap (λ b. cond b (Some start) (prelude.find p (range_with_len (start + 1) n))) (ap p here ∙ passes) ∙ ap (λ r. Some r) here
-    by_start (inr later) =
-        ap (λ b. cond b (Some start) (prelude.find p (range_with_len (start + 1) n))) (fails start (omega arith) later)
-        ∙ find_first p (start + 1) n rank (omega (arith, later)) (omega (arith, below)) passes (λ r over under. fails r (omega (arith, over)) under)
+find_first p start (suc n) rank above below passes fails =
+    find_from p start n rank passes (λ later. fails start (omega arith) later)
+    (λ later. find_first p (start + 1) n rank (omega (arith, later)) (omega (arith, below)) passes (λ r over under. fails r (omega (arith, over)) under))
+    (here_or_later start rank above)
 
 not_short : (a b : ℕ) → a ≤ b → nat_lt b a ≡ false
 not_short a b enough = grind (arith, nat_tests)
@@ -93,7 +95,7 @@ module _ {reaches : Call → Shape → Place → Type 0} {txn : Txn} {replies : 
   makes_fit : (most : ℕ → ℕ) → old.most ≡ Some most → (g : Graph) → Represents old.shape (committed old) g → overfull_at_make most [] (makes old.shape g txn.calls) ≡ None
   makes_fit most told g is =
       let now = told_now most told g is in
-      subst (λ (shape : Shape). overfull_at_make most [] (makes shape g txn.calls) ≡ None) runs.keeps.shape (runs.room most now.0 g now.1.1).short
+      subst (λ (shape : Shape). overfull_at_make most [] (makes shape g txn.calls) ≡ None) runs.keeps.shape (runs.room most now.0 g now.2).short
 
   -- it isn't to commit what it wrote
   pub room_without_commit : (txn.aborts ≡ true) ⊎ (is_writing txn ≡ false) → HasRoom txn old
@@ -131,20 +133,21 @@ module _ {reaches : Call → Shape → Place → Type 0} {txn : Txn} {replies : 
       none = λ most told g is.
           let now = told_now most told g is in
           ap (λ o. option_or o (cond (old.strict && is_writing txn && not txn.aborts) (short_at_commit old.shape g txn.calls) None)) (makes_fit most told g is)
-          ∙ by_strict old.strict refl (is_writing txn && not txn.aborts) most told g is now;
+          ∙ by_strict old.strict refl (is_writing txn) txn.aborts most told g is now;
     }
       where
         none_short : (most : ℕ → ℕ) → old.most ≡ Some most → old.strict ≡ true → (g : Graph) → Represents mid.shape (committed mid) g → short_at_commit old.shape g txn.calls ≡ None
         none_short most told strict g is =
             subst (λ (shape : Shape). short_at_commit shape g txn.calls ≡ None) runs.keeps.shape
-            (find_none _ 0 mid.shape.ranks (λ rank _ within. (blocks_same g is rank within).0 (blocks (ap is_some (runs.most ∙ told)) (runs.strict ∙ strict) rank within)))
+            (find_none _ 0 mid.shape.ranks (λ rank _ below. let within : rank < mid.shape.ranks = omega (arith, below) in (blocks_same g is rank within).0 (blocks (ap is_some (runs.most ∙ told)) (runs.strict ∙ strict) rank within)))
 
-        by_strict : (strict : Bool) → old.strict ≡ strict → (to_commit : Bool) → (most : ℕ → ℕ) → old.most ≡ Some most → (g : Graph) → Represents old.shape (committed old) g
+        by_strict : (strict : Bool) → old.strict ≡ strict → (writing aborts : Bool) → (most : ℕ → ℕ) → old.most ≡ Some most → (g : Graph) → Represents old.shape (committed old) g
             → (mid.most ≡ Some most) × (mid.seen ≡ old.seen) × Represents mid.shape (committed mid) g
-            → cond (strict && to_commit) (short_at_commit old.shape g txn.calls) None ≡ None
-        by_strict false is_strict to_commit most told g is now = refl
-        by_strict true is_strict false most told g is now = refl
-        by_strict true is_strict true most told g is now = none_short most told is_strict g now.1.1
+            → cond (strict && writing && not aborts) (short_at_commit old.shape g txn.calls) None ≡ None
+        by_strict false is_strict writing aborts most told g is now = refl
+        by_strict true is_strict false aborts most told g is now = refl
+        by_strict true is_strict true true most told g is now = refl
+        by_strict true is_strict true false most told g is now = none_short most told is_strict g now.2
 
     pub commit_lacks : {rank : ℕ} → is_writing txn ≡ true → mid.strict ≡ true → IsFirstWithoutBlocks mid.shape (committed mid) mid.writes rank → LacksRoom txn old rank
     commit_lacks {rank} writes strict first = record {
@@ -153,8 +156,8 @@ module _ {reaches : Call → Shape → Place → Type 0} {txn : Txn} {replies : 
           ap (λ o. option_or o (cond (old.strict && is_writing txn && not txn.aborts) (short_at_commit old.shape g txn.calls) None)) (makes_fit most told g is)
           ∙ ((λ i. cond (strict_old i && writes i && not (commits i)) (short_at_commit old.shape g txn.calls) None)
           ∙ subst (λ (shape : Shape). short_at_commit shape g txn.calls ≡ Some rank) runs.keeps.shape
-          (find_first _ 0 mid.shape.ranks rank (omega arith) first.within ((blocks_same g now.1.1 rank first.within).1 first.without)
-          (λ r _ below. (blocks_same g now.1.1 r (let within = first.within in omega (arith, below, within))).0 (first.first r below))));
+          (find_first _ 0 mid.shape.ranks rank (omega arith) (let within = first.within in omega (arith, within)) ((blocks_same g now.2 rank first.within).1 first.without)
+          (λ r _ below. (blocks_same g now.2 r (let within = first.within in omega (arith, below, within))).0 (first.first r below))));
     }
       where
         strict_old : old.strict ≡ true
@@ -241,7 +244,7 @@ module _ {reaches : Call → Shape → Place → Type 0} {txn : Txn} {call : Cal
           ap (λ o. option_or o (cond (old.strict && is_writing txn && not txn.aborts) (short_at_commit old.shape g txn.calls) None)) short
 
 module _ {reaches : Call → Shape → Place → Type 0} {txn : Txn} {replies : List Reply} {old mid : StoreState Noted} (runs : RunsOn reaches txn [] replies old mid) where
-  seen_before : {new : StoreState Noted} {number : ℕ} → length mid.seen ≤ number → length old.seen ≤ number
+  seen_before : {number : ℕ} → length mid.seen ≤ number → length old.seen ≤ number
   seen_before behind = let longer = prefix_length old.seen mid.seen runs.keeps.seen in omega (arith, longer, behind)
 
   pub has_written : {new : StoreState Noted} {number : ℕ} → IsInRange mid.shape → txn.aborts ≡ false → is_writing txn ≡ true → txn.whole ≡ false
@@ -253,7 +256,7 @@ module _ {reaches : Call → Shape → Place → Type 0} {txn : Txn} {replies : 
     placed = did.entry;
     note = refl;
     fits = subst (λ (shape : Shape). Fits shape (next_entry mid (record { txn = txn; replies = replies }))) (sym keeps.shape) (next_fits runs ranges commits local);
-    behind = seen_before {new = new} did.behind;
+    behind = seen_before did.behind;
     last = did.last;
     own = did.own ∙ ap (λ own. own ++ number ∷ []) runs.commits.own;
     allowance = did.allowance ∙ runs.commits.allowance;
@@ -295,12 +298,12 @@ module _ {reaches : Call → Shape → Place → Type 0} {txn : Txn} {replies : 
       by_told : (said.for_memory ≡ true) ⊎ ((mid.strict ≡ true) × ((rank : ℕ) × (said.names ≡ names_rank rank) × IsFirstWithoutBlocks mid.shape (committed mid) mid.writes rank))
           → (said.for_memory ≡ true) ⊎ (said.passing ≡ true) ⊎ ((rank : ℕ) × (said.names ≡ names_rank rank))
       by_told (inl none) = inl none
-      by_told (inr (strict, rank, is, first)) = inr (inr (rank, is))
+      by_told (inr (strict, (rank, is, first))) = inr (inr (rank, is))
 
       lacks : (rank : ℕ) → said.names ≡ names_rank rank → (said.for_memory ≡ true) ⊎ ((mid.strict ≡ true) × ((other : ℕ) × (said.names ≡ names_rank other) × IsFirstWithoutBlocks mid.shape (committed mid) mid.writes other))
           → LacksRoom txn old rank
       lacks rank named (inl none) = absurd (names_apart rank (sym (memory none) ∙ named))
-      lacks rank named (inr (strict, other, is, first)) =
+      lacks rank named (inr (strict, (other, is, first))) =
           commit_lacks runs ranges commits local writes strict
           (subst (λ (r : ℕ). IsFirstWithoutBlocks mid.shape (committed mid) mid.writes r) (rank_same other rank (sym is ∙ named)) first)
 
@@ -309,7 +312,7 @@ pub begin_keeps : {txn : Txn} {writing : Bool} {old new : StoreState Noted} → 
 begin_keeps {old = old} same idle keeps free = through (λ _. idle_writes_not old.phase idle) (λ looks. free (same ∙ looks)) keeps
 
 pub begin_refused : {reaches : Call → Shape → Place → Type 0} {txn : Txn} {writing : Bool} {old new : StoreState Noted} {said : Said} → writing ≡ is_writing txn → RefusesBegin writing old new said → IsRefused reaches txn old new said
-begin_refused {said = said} same did = record {
+begin_refused {old = old} {said = said} same did = record {
   aborted = did.aborted;
   names = inl did.names;
   told = λ told. absurd (did.told told);
@@ -319,6 +322,6 @@ begin_refused {said = said} same did = record {
       record {
         looks = sym same ∙ lost.0;
         tries = lost.1.tries;
-        changed = let more = ap length lost.1.changes in let split = length-append _ (lost.1.change ∷ []) in omega (arith, more, split);
+        changed = let more = ap length lost.1.changes in let split = length-append old.changes (lost.1.change ∷ []) in omega (arith, more, split);
       };
 }

@@ -17,6 +17,7 @@ use Rattle.object_words.specs.Entries.{Entry, store_after}
 use Rattle.graph_model.specs.Graph.{Graph}
 use Rattle.graph_model.specs.Capacity.{make_of}
 use Rattle.holder_codec.specs.Represents.{Represents}
+use Rattle.object_store.specs.declared.phase.Phase.{Phase}
 use Rattle.object_store.specs.declared.phase.Phase.TheVariants.{Idle, Reading, Writing}
 use Rattle.object_store.specs.State.{StoreState, begun, committed}
 use Rattle.object_store.specs.Sound.{Continues, KeepsCommits, StaysBegun}
@@ -137,13 +138,13 @@ module _ {reaches : Call → Shape → Place → Type 0} {txn : Txn} {call : Cal
 
 -- ---- the phase, and the ranks
 
-pub begun_idle : {writing : Bool} {state : StoreState Noted} → state.phase ≡ begun writing → state.phase ≢ Idle
-begun_idle {writing} {state} is = is_begun writing state.phase is
+pub begun_idle : (writing : Bool) {phase : Phase} → phase ≡ begun writing → phase ≢ Idle
+begun_idle writing {phase} is = is_begun writing phase is
 
-pub begun_reading : {writing : Bool} {state : StoreState Noted} → state.phase ≡ begun writing → writing ≡ false → state.phase ≡ Reading
+pub begun_reading : {writing : Bool} {phase : Phase} → phase ≡ begun writing → writing ≡ false → phase ≡ Reading
 begun_reading is looks = is ∙ ap begun looks
 
-pub begun_writing : {writing : Bool} {state : StoreState Noted} → state.phase ≡ begun writing → writing ≡ true → state.phase ≡ Writing
+pub begun_writing : {writing : Bool} {phase : Phase} → phase ≡ begun writing → writing ≡ true → phase ≡ Writing
 begun_writing is writes = is ∙ ap begun writes
 
 pub some_ranks : {shape : Shape} → IsInRange shape → 0 < shape.ranks

@@ -60,7 +60,7 @@ pub returns-in_err-begin-clause-keeps : goal.returns-in_err-begin-clause-keeps
 returns-in_err-begin-clause-keeps g c = begin_keeps c.is_writing-writing.ensures c.requires.idle c.in_err-begin.ensures.keeps c.in_err-begin.ensures.lock_free
 
 pub returns-in_err-begin-clause-refused : goal.returns-in_err-begin-clause-refused
-returns-in_err-begin-clause-refused g c = let did = begin_refused {reaches = g.A.Applies.reaches} c.is_writing-writing.ensures c.in_err-begin.ensures.refused in search rules
+returns-in_err-begin-clause-refused g c = let did = begin_refused {reaches = g.A.Applies.reaches} {txn = c.args.txn.now} c.is_writing-writing.ensures c.in_err-begin.ensures.refused in search rules
 
 pub returns-in_err-reply-clause-keeps : goal.returns-in_err-reply-clause-keeps
 returns-in_err-reply-clause-keeps g c = ends_keep c.loop-call.invariant.runs c.in_err-reply.ensures.works.fell.keeps
@@ -83,7 +83,7 @@ returns-in_err-reply-clause-explained_still g c =
     explained-then g.S.Store.explains c.args.store.now c.loop-call.store c.apply.new.store c.loop-call.invariant.still c.in_err-reply.ensures.works.fell.explained_still
 
 pub give_up-requires : goal.give_up-requires
-give_up-requires g c = begun_idle {writing = is_writing c.args.txn.now} (c.in_ok-reply.ensures.works.went.reaches.stays.phase ∙ c.loop-call.invariant.runs.phase)
+give_up-requires g c = begun_idle (is_writing c.args.txn.now) (c.in_ok-reply.ensures.works.went.reaches.stays.phase ∙ c.loop-call.invariant.runs.phase)
 
 pub returns-then-is_err : goal.returns-then-is_err
 returns-then-is_err g c =
@@ -107,7 +107,7 @@ returns-then-is_err g c =
 -- ---- all calls are made
 
 pub abort-requires : goal.abort-requires
-abort-requires g c = begun_idle {writing = is_writing c.args.txn.now} c.loop-call.invariant.runs.phase
+abort-requires g c = begun_idle (is_writing c.args.txn.now) c.loop-call.invariant.runs.phase
 
 pub returns-then-txn : goal.returns-then-txn
 returns-then-txn g c =
