@@ -137,7 +137,7 @@ module _ {N : Type 0} (fits : Shape → Entry N → Type 0) (shape : Shape) wher
       as_long k zero = refl
       as_long k (suc n) = ap suc (as_long (suc k) n)
 
-  no_more : (xs ys all : List (Entry N)) → xs ++ ys ≡ all → length all ≡ length xs → all ≡ xs
+  pub no_more : (xs ys all : List (Entry N)) → xs ++ ys ≡ all → length all ≡ length xs → all ≡ xs
   no_more xs [] all is same = sym is ∙ append-nil xs
   no_more xs (y ∷ ys) all is same = absurd (omega (arith, ap length is, length-append xs (y ∷ ys), same))
 
@@ -165,8 +165,8 @@ module _ {N : Type 0} (fits : Shape → Entry N → Type 0) (shape : Shape) wher
 module _ {N : Type 0} (fits : Shape → Entry N → Type 0) (shape : Shape) where
   -- at first it has taken nothing
   pub counts_ready : (rank : RankModel N) (txn : Txn) → is_ready shape rank ≡ true → IsTrueView fits shape rank.view → rank.view.dirty ≡ []
-      → txn.taken.items ≡ [] → CountsBlocks shape rank txn
-  counts_ready rank txn ready is clean none =
+      → txn.taken.items ≡ [] → txn.reads ≡ [] → CountsBlocks shape rank txn
+  counts_ready rank txn ready is clean none unread =
       let each = on_each shape.ranks (λ home. nat_lt 0 (right_count home rank.view.rights) && is_low (bound_of rank.view.bounds home)) in
       let spare = has_no_spare rank.spares in
       let parts = three each spare (has_none rank.view.private) ready in
@@ -187,6 +187,7 @@ module _ {N : Type 0} (fits : Shape → Entry N → Type 0) (shape : Shape) wher
           tags = λ home below. omega (arith, (low home below).1);
         };
         whole = whole_length fits shape rank.view is alone;
+        agrees = λ object words e. absurd (cc (sym (ap (λ (r : Contents). words_at r object) unread) ∙ e));
         made = λ block there. absurd (omega (arith, there, ap (times block) none));
       }
     where
@@ -197,7 +198,7 @@ module _ {N : Type 0} (fits : Shape → Entry N → Type 0) (shape : Shape) wher
       three false b c h = absurd (cc h)
 
   module _ (before after : RankModel N) (old new : Txn) (was : CountsBlocks shape before old) (follows : Follows before.view after.view)
-      (is : IsTrueView fits shape after.view) where
+      (is : IsTrueView fits shape after.view) (agrees : Agrees new.reads (store_after after.view.seen)) where
     seen_is : after.view.seen ≡ before.view.seen
     seen_is = seen_same fits shape before.view after.view follows is was.owns.alone was.whole
 
@@ -220,6 +221,7 @@ module _ {N : Type 0} (fits : Shape → Entry N → Type 0) (shape : Shape) wher
       owns = subst (OwnsTaken shape after) (sym (ap (λ t. t.items) taken))
           (owns_still shape before after old.taken.items follows clean spares own bounds was.owns);
       whole = whole_still;
+      agrees = agrees;
       made = λ block there. made_still block (kept block)
           (was.made block (subst (λ l. 0 < times block l) (ap (λ t. t.items) taken) there));
     }
@@ -231,6 +233,7 @@ module _ {N : Type 0} (fits : Shape → Entry N → Type 0) (shape : Shape) wher
     counts_made made taken owns kept is_made = record {
       owns = owns;
       whole = whole_still;
+      agrees = agrees;
       made = λ block there. elim (place_cases block made) [
         | inl here ↦ subst (IsMade shape after.view.seen new.writes) (sym here) is_made
         | inr differ ↦ made_still block (kept block) (was.made block (among block differ there))
@@ -244,8 +247,8 @@ module _ {N : Type 0} (fits : Shape → Entry N → Type 0) (shape : Shape) wher
             omega (arith, there, ap (times block) taken, times-append block old.taken.items (made ∷ []), gone)
 
 -- the objects that are made on a rank are as many as the blocks that were taken there
-module _ {N : Type 0} (fits : Shape → Entry N → Type 0) (window : WindowModel) (rank : RankModel N) (txn : Txn)
-    (counts : CountsBlocks window.shape rank txn) (tied : IsTied window rank txn) (agrees : Agrees txn.reads (store_after rank.view.seen)) where
+module _ {N : Type 0} (window : WindowModel) (rank : RankModel N) (txn : Txn)
+    (counts : CountsBlocks window.shape rank txn) (tied : IsTied window rank txn) where
   abbrev shape : Shape
   shape = window.shape
 
@@ -279,7 +282,7 @@ module _ {N : Type 0} (fits : Shape → Entry N → Type 0) (window : WindowMode
     where
       read_empty : (found : Option (List ℕ)) → words_at txn.reads block ≡ found → content_of store block ≡ [] → unwrap_or found [] ≡ []
       read_empty None e empty = refl
-      read_empty (Some words) e empty = sym (agrees block words e) ∙ empty
+      read_empty (Some words) e empty = sym (counts.agrees block words e) ∙ empty
 
       by_cases : (reserved : Bool) → is_reserved shape block.block ≡ reserved → (content : List ℕ) → content_of store block ≡ content
           → (written : Option (List ℕ)) → words_at txn.writes block ≡ written → one_if (not reserved && is_empty content && is_some written) ≡ 0

@@ -19,3 +19,4 @@ pub mod AloneFacts
 pub mod GrownFacts
 pub mod FreedFacts
 pub mod FirstFacts
+pub mod StopFacts

@@ -50,18 +50,24 @@ right_at rank (right ∷ more) (suc k) h e = omega (arith, count-cons rank right
 -- what a call keeps of a store that tells its most: what was seen, and that there is no spare
 pub record IsFirm {N : Type 0} (shape : Shape) (opened before after : RankModel N) (old : Txn) : Type 0 where
   pub seen : tells shape opened old ≡ true → after.view.seen ≡ before.view.seen
-  pub clean : tells shape opened old ≡ true → after.spares ≡ before.spares
+  pub clean : tells shape opened old ≡ true → has_no_spare after.spares ≡ true
 
 -- so it is where blocks are counted
-pub firm : {N : Type 0} (fits : Shape → Entry N → Type 0) (shape : Shape) (opened before after : RankModel N) (old : Txn)
+pub firm_clean : {N : Type 0} (fits : Shape → Entry N → Type 0) (shape : Shape) (opened before after : RankModel N) (old : Txn)
     → CountsFirst shape opened before old → Follows before.view after.view → IsTrueView fits shape after.view
-    → (CountsBlocks shape before old → after.spares ≡ before.spares) → IsFirm shape opened before after old
-firm fits shape opened before after old counts follows is spares = record {
+    → (CountsBlocks shape before old → has_no_spare after.spares ≡ true) → IsFirm shape opened before after old
+firm_clean fits shape opened before after old counts follows is clean = record {
   seen = λ told.
       let was = counts_told shape opened before old counts told in
       seen_same fits shape before.view after.view follows is was.owns.alone was.whole;
-  clean = λ told. spares (counts_told shape opened before old counts told);
+  clean = λ told. clean (counts_told shape opened before old counts told);
 }
+
+pub firm : {N : Type 0} (fits : Shape → Entry N → Type 0) (shape : Shape) (opened before after : RankModel N) (old : Txn)
+    → CountsFirst shape opened before old → Follows before.view after.view → IsTrueView fits shape after.view
+    → (CountsBlocks shape before old → after.spares ≡ before.spares) → IsFirm shape opened before after old
+firm fits shape opened before after old counts follows is spares =
+    firm_clean fits shape opened before after old counts follows is (λ was. ap has_no_spare (spares was) ∙ was.owns.spares)
 
 module _ {N : Type 0} (fits : Shape → Entry N → Type 0) (window : WindowModel) (opened : RankModel N) where
   known_agrees : (view : View N) → IsTrueView fits window.shape view → (object : Place) (words : List ℕ) (known : Option Known)
@@ -96,7 +102,7 @@ module _ {N : Type 0} (fits : Shape → Entry N → Type 0) (window : WindowMode
 
   pub recalled : (before after : RankModel N) (old new : Txn) → Recalls before.view after.view
       → IsTrueView fits window.shape after.view → IsTied window after new → (old.phase ≢ Writing → after.spares ≡ before.spares)
-      → (tells window.shape opened old ≡ true → after.spares ≡ before.spares)
+      → (tells window.shape opened old ≡ true → has_no_spare after.spares ≡ true)
       → Continues fits (window_state window opened before old) (window_state window opened after new)
   recalled before after old new recalls is tied spares clean = record {
     shape = refl;
@@ -105,7 +111,7 @@ module _ {N : Type 0} (fits : Shape → Entry N → Type 0) (window : WindowMode
     seen = recalls.seen;
     changes = prefix-refl [];
     clean = λ which was. elim which [
-      | inl some ↦ ap has_no_spare (clean (told_by (tells window.shape opened old) window.shape before.view.seen some)) ∙ was
+      | inl some ↦ clean (told_by (tells window.shape opened old) window.shape before.view.seen some)
       | inr quiet ↦ ap has_no_spare (spares quiet) ∙ was
     ];
     takes = recalls.takes;

@@ -5,7 +5,7 @@ use Rattle.std.specs.Option.{unwrap_or}
 use Rattle.rma_layout.specs.Shape.{Shape}
 use Rattle.rma_layout.specs.Placement.{Place, IsReserved}
 use Rattle.object_words.specs.Blocks.{contents_use, grown_blocks}
-use Rattle.object_words.specs.Contents.{Contents, content_of, words_at}
+use Rattle.object_words.specs.Contents.{Agrees, Contents, content_of, words_at}
 use Rattle.object_words.specs.Entries.{Entry, store_after}
 use Rattle.window_rule.specs.View.{View, OwnBlock}
 use Rattle.window_rule.specs.Partition.{places_of, times}
@@ -88,6 +88,7 @@ pub record IsMade {N : Type 0} (shape : Shape) (seen : List (Entry N)) (writes :
 pub record CountsBlocks {N : Type 0} (shape : Shape) (rank : RankModel N) (txn : Txn) : Type 0 where
   pub owns : OwnsTaken shape rank txn.taken.items
   pub whole : length rank.view.own ≡ length rank.view.seen
+  pub agrees : Agrees txn.reads (store_after rank.view.seen)
   pub made : (block : Place) → 0 < times block txn.taken.items
       → IsMade shape rank.view.seen txn.writes block
 

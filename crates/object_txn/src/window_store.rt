@@ -248,6 +248,7 @@ impl<'a, L: Law> WindowStore<'a, L> {
                 Ok(number)
             }
             Err(why) => {
+                self.window.geometry().keeps_ranges();
                 let _place = self.rank.place(self.window);
                 end_all(self.window, &mut self.rank, &mut self.txn);
                 Err(why)

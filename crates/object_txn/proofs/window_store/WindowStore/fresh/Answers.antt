@@ -1,11 +1,13 @@
-use Rattle.std.proofs.Common.{arith, List, ap, rules, sym, subst}
+use Rattle.std.proofs.Common.{arith, List, ap, ◌∙◌, rules, sym, subst}
 use Rattle.window_rule.specs.View.{View, OwnBlock}
 use Rattle.window_rule.specs.Partition.{places_of, times}
 use Rattle.window_rule.specs.Trails.{Follows}
 use Rattle.window_rule.proofs.Trails.{follows_trans}
 use Rattle.object_txn.specs.Tied.{IsTied}
 use Rattle.object_txn.specs.Moves.{Makes}
-use Rattle.object_txn.proofs.StoreFacts.{continues, makes_object}
+use Rattle.object_txn.specs.State.{has_no_spare}
+use Rattle.object_txn.proofs.FirstFacts.{all_free, counts_told, some_free}
+use Rattle.object_txn.proofs.StoreFacts.{continues, firm_clean, makes_object, refuses_fresh}
 use Rattle.object_txn.proofs.Explaining.{explains_later, never_for_others}
 use Rattle.object_txn.proofs.window_store.WindowStore.fresh.Goals as goal
 
@@ -14,7 +16,10 @@ returns-in-Ok-clause-keeps g c =
     let self = c.args.self.now in
     let follows : Follows self.rank.view c.truths.new.self.view = search rules in
     let tied : IsTied self.window.now c.truths.new.self c.make.new.txn = search rules in
-    continues g.L.Law.fits self.window.now self.rank c.truths.new.self self.txn c.make.new.txn follows c.truths.ensures.truths tied
+    continues g.L.Law.fits self.window.now self.opened.value self.rank c.truths.new.self self.txn c.make.new.txn follows
+    (firm_clean g.L.Law.fits self.window.now.shape self.opened.value self.rank c.truths.new.self self.txn self.counts follows c.truths.ensures.truths
+    (λ was. ap has_no_spare c.truths.ensures.spares ∙ (c.make.ensures.alone was.owns).spares))
+    c.truths.ensures.truths tied
     (λ quiet. absurd (quiet c.requires.begun))
 
 pub returns-in-Err-clause-explained : goal.returns-in-Err-clause-explained
@@ -27,15 +32,24 @@ pub returns-in-Ok-clause-done : goal.returns-in-Ok-clause-done
 returns-in-Ok-clause-done g c =
     let self = c.args.self.now in
     let follows : Follows self.rank.view c.truths.new.self.view = search rules in
-    makes_object g.L.Law.fits self.window.now self.rank c.truths.new.self self.txn c.make.new.txn follows c.args.home c.in-Ok.at c.truths.ensures.truths
+    makes_object g.L.Law.fits self.window.now self.opened.value self.rank c.truths.new.self self.txn c.make.new.txn follows
+    (firm_clean g.L.Law.fits self.window.now.shape self.opened.value self.rank c.truths.new.self self.txn self.counts follows c.truths.ensures.truths
+    (λ was. ap has_no_spare c.truths.ensures.spares ∙ (c.make.ensures.alone was.owns).spares))
+    c.args.home c.in-Ok.at c.truths.ensures.truths
     (subst (λ (v : View g.row.L-Note.Denot). Makes self.window.now.shape c.args.home v self.txn c.make.new.txn c.in-Ok.at) (sym c.truths.ensures.view) c.in-Ok.ensures.makes)
-    c.make.ensures.phase
+    c.make.ensures.phase c.make.ensures.first
+    (λ told.
+    let was = counts_told self.window.now.shape self.opened.value self.rank self.txn self.counts told in
+    some_free self.window.now self.rank self.txn was self.tied c.args.home (c.in-Ok.ensures.room was.owns))
 
 pub returns-in-Err-clause-keeps : goal.returns-in-Err-clause-keeps
 returns-in-Err-clause-keeps g c =
     let self = c.args.self.now in
-    continues g.L.Law.fits self.window.now self.rank c.end_all.new.rank self.txn c.end_all.new.txn
+    continues g.L.Law.fits self.window.now self.opened.value self.rank c.end_all.new.rank self.txn c.end_all.new.txn
     (follows_trans self.rank.view c.make.new.rank.view c.end_all.new.rank.view c.make.ensures.follows c.end_all.ensures.follows)
+    (firm_clean g.L.Law.fits self.window.now.shape self.opened.value self.rank c.end_all.new.rank self.txn self.counts
+    (follows_trans self.rank.view c.make.new.rank.view c.end_all.new.rank.view c.make.ensures.follows c.end_all.ensures.follows) c.end_all.ensures.truths
+    (λ was. let owns = c.make.ensures.alone was.owns in ap has_no_spare (c.end_all.ensures.alone owns) ∙ owns.spares))
     c.end_all.ensures.truths c.end_all.ensures.tied (λ quiet. absurd (quiet c.requires.begun))
 
 pub returns-in-Err-clause-alone : goal.returns-in-Err-clause-alone
@@ -54,3 +68,17 @@ returns-in-Err-clause-given_back g c =
       );
       given = back.given;
     }
+
+pub returns-in-Err-clause-refused : goal.returns-in-Err-clause-refused
+returns-in-Err-clause-refused g c =
+    let self = c.args.self.now in
+    refuses_fresh g.L.Law.fits self.window.now self.opened.value self.rank c.end_all.new.rank self.txn c.end_all.new.txn
+    (follows_trans self.rank.view c.make.new.rank.view c.end_all.new.rank.view c.make.ensures.follows c.end_all.ensures.follows)
+    (firm_clean g.L.Law.fits self.window.now.shape self.opened.value self.rank c.end_all.new.rank self.txn self.counts
+    (follows_trans self.rank.view c.make.new.rank.view c.end_all.new.rank.view c.make.ensures.follows c.end_all.ensures.follows) c.end_all.ensures.truths
+    (λ was. let owns = c.make.ensures.alone was.owns in ap has_no_spare (c.end_all.ensures.alone owns) ∙ owns.spares))
+    c.args.home c.in-Err.why c.in-Err.ensures.names c.end_all.ensures.ended
+    (λ told. returns-in-Err-clause-alone g c (counts_told self.window.now.shape self.opened.value self.rank self.txn self.counts told).owns.alone)
+    (λ told named.
+    let was = counts_told self.window.now.shape self.opened.value self.rank self.txn self.counts told in
+    all_free self.window.now self.rank self.txn was self.tied c.args.home (c.in-Err.ensures.full was.owns named))
