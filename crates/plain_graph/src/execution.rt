@@ -154,7 +154,8 @@ pub(crate) fn full_on(
     geometry.keeps_ranges();
     let trial = try_calls(alloc, *geometry, map, txn.calls.as_slice())?;
     let makes = trial.makes.as_slice();
-    if surely_fits(&usage.used, geometry, makes, trial.touched.as_slice())?.is_some() {
+    let touched = trial.touched.as_slice();
+    if let Some(_most) = surely_fits(&usage.used, geometry, makes, touched)? {
         return Ok(None);
     }
     let used = usage.counted(geometry, map)?;

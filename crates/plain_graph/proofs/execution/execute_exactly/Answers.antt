@@ -42,7 +42,7 @@ returns-clause-ended c =
     let none : None ≡ full_rank shape g txn =
     sym c.in_default.is ∙ full_is c.args.geometry.now shape g txn c.as_slice.result.now c.args.used.now c.in_ok-trial.trial _
     c.requires.shape c.as_slice.ensures c.requires.writes c.requires.kept.counted c.in_ok-trial.ensures.tells c.in_ok-rank.ensures in
-    ap Done (c.in_ok-replies-2.ensures.replies ∙ ap (λ s. replies_to s c.try_calls.new.map.graph txn) c.try_calls.ensures.shape ∙ ap (λ h. replies_to shape h txn) c.in_ok-trial.ensures.graph)
+    ap Done (c.in_ok-replies.ensures.replies ∙ ap (λ s. replies_to s c.try_calls.new.map.graph txn) c.try_calls.ensures.shape ∙ ap (λ h. replies_to shape h txn) c.in_ok-trial.ensures.graph)
     ∙ ap (λ o. ended_of o (replies_to shape g txn)) none
 
 pub returns-clause-graph : goal.returns-clause-graph
@@ -53,5 +53,5 @@ returns-clause-graph c =
     let none : None ≡ full_rank shape g txn =
     sym c.in_default.is ∙ full_is c.args.geometry.now shape g txn c.as_slice.result.now c.args.used.now c.in_ok-trial.trial _
     c.requires.shape c.as_slice.ensures c.requires.writes c.requires.kept.counted c.in_ok-trial.ensures.tells c.in_ok-rank.ensures in
-    c.in_ok-replies-2.ensures.graph ∙ ap (λ s. graph_after_txn s c.try_calls.new.map.graph txn) c.try_calls.ensures.shape ∙ ap (λ h. graph_after_txn shape h txn) c.in_ok-trial.ensures.graph
+    c.in_ok-replies.ensures.graph ∙ ap (λ s. graph_after_txn s c.try_calls.new.map.graph txn) c.try_calls.ensures.shape ∙ ap (λ h. graph_after_txn shape h txn) c.in_ok-trial.ensures.graph
     ∙ ap (λ o. if is_some o then g else graph_after_txn shape g txn) none
