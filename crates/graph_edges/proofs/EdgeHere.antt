@@ -116,12 +116,12 @@ module _ {shape : Shape} {contents : Contents} {g : Graph} (ranges : IsInRange s
 
 -- ---- its record is found
 
-module _ {source ordinal : ℕ} {old new : StoreState Noted} (ranges : IsInRange old.shape) where
-  source_reads : {found : Option VertexHolder} → FindsVertex source old new found → (store : Contents) (g : Graph) (is : Represents old.shape (overlay store old.writes) g) → Agrees new.reads store → (place : Place)
-      → (place ≡ bucket_of old.shape source) ⊎ ((is_vertex g source ≡ true) × (object_of is.vertices source ≡ place))
-      ⊎ ((is_heavy_at g source ordinal ≡ true) × (edge_object_of is.edges (key_of source ordinal) ≡ place)) ⊎ (words_at new.reads place ≡ words_at old.reads place)
-  source_reads finds store g is agrees place = elim (finds.reads store g is agrees place) [ inl bucket ↦ inl bucket | inr (inl vertex) ↦ inr (inl vertex) | inr (inr unread) ↦ inr (inr (inr unread)) ]
+source_reads : {source : ℕ} (ordinal : ℕ) {old new : StoreState Noted} {found : Option VertexHolder} → FindsVertex source old new found → (store : Contents) (g : Graph) (is : Represents old.shape (overlay store old.writes) g)
+    → Agrees new.reads store → (place : Place) → (place ≡ bucket_of old.shape source) ⊎ ((is_vertex g source ≡ true) × (object_of is.vertices source ≡ place))
+    ⊎ ((is_heavy_at g source ordinal ≡ true) × (edge_object_of is.edges (key_of source ordinal) ≡ place)) ⊎ (words_at new.reads place ≡ words_at old.reads place)
+source_reads ordinal finds store g is agrees place = elim (finds.reads store g is agrees place) [ inl bucket ↦ inl bucket | inr (inl vertex) ↦ inr (inl vertex) | inr (inr unread) ↦ inr (inr (inr unread)) ]
 
+module _ {source ordinal : ℕ} {old new : StoreState Noted} (ranges : IsInRange old.shape) where
   pub no_source : FindsVertex source old new None → FindsRecord source ordinal old new (Err (NoVertex source))
   no_source finds = record {
     looks = finds.looks;
@@ -129,7 +129,7 @@ module _ {source ordinal : ℕ} {old new : StoreState Noted} (ranges : IsInRange
     edge = λ store g is agrees.
         let none = from_none (holder_of g is.vertices is.edges source) (vertex_at g source) (finds.vertex store g is agrees) in
         sym (ap (λ (o : Option Vertex). result_map_both (record_of ranges is source ordinal) (λ refusal. refusal) (edge_step source o (edge_at g source ordinal))) none);
-    reads = source_reads finds;
+    reads = source_reads ordinal finds;
   }
 
   pub source_found : {vertex : VertexHolder} {edge : Option EdgeRecord} → FindsVertex source old new (Some vertex) → edge ≡ record_for vertex.edges (out_key ordinal) → FindsRecord source ordinal old new (ok_or edge NoEdge)
@@ -139,7 +139,7 @@ module _ {source ordinal : ℕ} {old new : StoreState Noted} (ranges : IsInRange
     edge = λ store g is agrees.
         let v = from_map (holder_of g is.vertices is.edges source) vertex (vertex_at g source) (finds.vertex store g is agrees) in
         ap (λ (o : Option EdgeRecord). ok_or o NoEdge) (found ∙ ap (λ (h : VertexHolder). record_for h.edges (out_key ordinal)) v.2) ∙ found_here ranges is source ordinal v.0 v.1;
-    reads = source_reads finds;
+    reads = source_reads ordinal finds;
   }
 
 -- ---- and then the edge
@@ -175,12 +175,9 @@ module _ {source ordinal : ℕ} {old mid : StoreState Noted} {edge : EdgeRecord}
     own_unreserved place form = subst (λ (shape : Shape). IsUnreserved shape (home_of shape source) place) (sym finds.looks.stays.shape) (own_place ranges somewhere.represents source ordinal there place form)
 
   module _ {new : StoreState Noted} {got : EdgeHolder} (found : opening.FindsEdge source edge mid new got) (reaches : Reaches (OwnOf edge.form mid.shape) (λ _. ⊥) mid new) where
-    agreed : (store : Contents) → Agrees new.reads store → Agrees mid.reads store
-    agreed = agrees_before (edge_looks source edge got found).stays
-
     got_is : (store : Contents) (g : Graph) (is : Represents old.shape (overlay store old.writes) g) → Agrees new.reads store → Ok got ≡ found_of (edge_holder_for g.types source ordinal) g source ordinal
     got_is store g is agrees =
-        let there = finds.edge store g is (agreed store agrees) in
+        let there = finds.edge store g is (agrees_before (edge_looks source edge got found).stays store agrees) in
         let e = one ranges is source ordinal there in
         let finds_it : opening.FindsEdge source (held.record_at_source ordinal (edge_of_graph g is.vertices is.edges source ordinal e.0)) mid new got =
         subst (λ (r : EdgeRecord). opening.FindsEdge source r mid new got) e.2 found in
@@ -196,8 +193,8 @@ module _ {source ordinal : ℕ} {old mid : StoreState Noted} {edge : EdgeRecord}
       stands = still (looks-then finds.looks (edge_looks source edge got found)) knows;
       edge = got_is;
       reads = λ store g is agrees place. elim (reaches.reads place) [
-        | inl own ↦ inr (inr (inl (heavy_there ranges is source ordinal (finds.edge store g is (agreed store agrees)) place own)))
-        | inr unread ↦ elim (finds.reads store g is (agreed store agrees) place) [
+        | inl own ↦ inr (inr (inl (heavy_there ranges is source ordinal (finds.edge store g is (agrees_before (edge_looks source edge got found).stays store agrees)) place own)))
+        | inr unread ↦ elim (finds.reads store g is (agrees_before (edge_looks source edge got found).stays store agrees) place) [
           | inl bucket ↦ inl bucket
           | inr (inl vertex) ↦ inr (inl vertex)
           | inr (inr (inl object)) ↦ inr (inr (inl object))

@@ -55,6 +55,13 @@ left_alone : (show : Graph → Edge → Reply) (g : Graph) (found : Step Edge) �
 left_alone show g (Ok edge) = refl
 left_alone show g (Err refusal) = refl
 
+module _ (shape : Shape) (call : Call) (source ordinal : ℕ) (show : Graph → Edge → Reply) (steps : (g : Graph) → steps_of shape g call ≡ ShowsEdge show g (edge_or_refusal g source ordinal)) where
+  leaves_graph : (g : Graph) → (answer_of g (steps_of shape g call)).graph ≡ g
+  leaves_graph g = ap (λ s. (answer_of g s).graph) (steps g) ∙ left_alone show g (edge_or_refusal g source ordinal)
+
+  replies : (g : Graph) (found : Step Edge) → edge_or_refusal g source ordinal ≡ found → (answer_of g (ShowsEdge show g found)).reply ≡ (answer_of g (steps_of shape g call)).reply
+  replies g found is = sym (ap (λ s. (answer_of g s).reply) (steps g) ∙ ap (λ f. (answer_of g (ShowsEdge show g f)).reply) is)
+
 module _ {X : Type 0} {value : Graph → VertexObjects → EdgeObjects → Edge → X} {source ordinal : ℕ} {old mid : StoreState Noted} (ranges : IsInRange old.shape) (call : Call) (asked : (g : Graph) → IsAsked g call source) where
   pub looked : {found : Step X} → Finds value source ordinal old mid found → (store : Contents) (g : Graph) (is : Represents old.shape (overlay store old.writes) g) → Agrees mid.reads store → (place : Place)
       → IsReached old.shape g call is.vertices is.edges place ⊎ (words_at mid.reads place ≡ words_at old.reads place)
@@ -66,31 +73,25 @@ module _ {X : Type 0} {value : Graph → VertexObjects → EdgeObjects → Edge 
   ]
 
   module _ (show : Graph → Edge → Reply) (steps : (g : Graph) → steps_of old.shape g call ≡ ShowsEdge show g (edge_or_refusal g source ordinal)) where
-    leaves_graph : (g : Graph) → (answer_of g (steps_of old.shape g call)).graph ≡ g
-    leaves_graph g = ap (λ s. (answer_of g s).graph) (steps g) ∙ left_alone show g (edge_or_refusal g source ordinal)
-
-    replies : (g : Graph) (found : Step Edge) → edge_or_refusal g source ordinal ≡ found → (answer_of g (ShowsEdge show g found)).reply ≡ (answer_of g (steps_of old.shape g call)).reply
-    replies g found is = sym (ap (λ s. (answer_of g s).reply) (steps g) ∙ ap (λ f. (answer_of g (ShowsEdge show g f)).reply) is)
-
     pub refused_applied : {reply : Reply} → Finds value source ordinal old mid (Err reply) → AppliesCall call old mid reply
-    refused_applied {reply} finds = looks_applied finds.looks leaves_graph
-        (λ store g is agrees. replies g (Err reply) (from_err (value g is.vertices is.edges) reply (edge_or_refusal g source ordinal) (finds.edge store g is agrees)))
+    refused_applied {reply} finds = looks_applied finds.looks (leaves_graph old.shape call source ordinal show steps)
+        (λ store g is agrees. replies old.shape call source ordinal show steps g (Err reply) (from_err (value g is.vertices is.edges) reply (edge_or_refusal g source ordinal) (finds.edge store g is agrees)))
         (looked finds)
 
     pub seen_applied : {x : X} {reply : Reply} → Finds value source ordinal old mid (Ok x) → ((g : Graph) (vertices : VertexObjects) (edges : EdgeObjects) (e : Edge) → x ≡ value g vertices edges e → reply ≡ show g e)
         → AppliesCall call old mid reply
-    seen_applied {x} {reply} finds shows = looks_applied finds.looks leaves_graph
+    seen_applied {x} {reply} finds shows = looks_applied finds.looks (leaves_graph old.shape call source ordinal show steps)
         (λ store g is agrees.
         let e = from_ok (value g is.vertices is.edges) x (edge_or_refusal g source ordinal) (finds.edge store g is agrees) in
-        shows g is.vertices is.edges e.0 e.2 ∙ replies g (Ok e.0) e.1)
+        shows g is.vertices is.edges e.0 e.2 ∙ replies old.shape call source ordinal show steps g (Ok e.0) e.1)
         (looked finds)
 
     pub shown_applied : {new : StoreState Noted} {x : X} {names : MetaHolder} {reply : Reply} → Finds value source ordinal old mid (Ok x) → FindsNames mid new names → Reaches (At metadata mid.shape) (λ _. ⊥) mid new
         → ((g : Graph) (vertices : VertexObjects) (edges : EdgeObjects) (e : Edge) → names ≡ names_of g → x ≡ value g vertices edges e → reply ≡ show g e) → AppliesCall call old new reply
-    shown_applied {new} {x} {names} {reply} finds named reaches shows = looks_applied (looks-then finds.looks named.looks) leaves_graph
+    shown_applied {new} {x} {names} {reply} finds named reaches shows = looks_applied (looks-then finds.looks named.looks) (leaves_graph old.shape call source ordinal show steps)
         (λ store g is agrees.
         let e = from_ok (value g is.vertices is.edges) x (edge_or_refusal g source ordinal) (finds.edge store g is (agrees_before named.looks.stays store agrees)) in
-        shows g is.vertices is.edges e.0 (names_later finds.looks named store g is agrees) e.2 ∙ replies g (Ok e.0) e.1)
+        shows g is.vertices is.edges e.0 (names_later finds.looks named store g is agrees) e.2 ∙ replies old.shape call source ordinal show steps g (Ok e.0) e.1)
         (λ store g is agrees place. elim (reaches.reads place) [
           | inl names_here ↦ inl (names_reached g call ranges is names_here)
           | inr unread ↦ elim (looked finds store g is (agrees_before named.looks.stays store agrees) place) [ inl reached ↦ inl reached | inr earlier ↦ inr (unread ∙ earlier) ]

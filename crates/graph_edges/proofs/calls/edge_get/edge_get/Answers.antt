@@ -33,19 +33,19 @@ returns-in-Err-clause-applied g c =
     let found = subst (FindsEdge c.args.source c.args.ordinal mid (g.S.Store.state c.find_edge.new.store)) c.in-Err.is c.in_ok-found.ensures.found in
     no_edge_applied ranges c.in_ok-named.ensures.works.went.reaches typed found
 
-pub returns-in-Ok-clause-works : goal.returns-in-Ok-clause-works
-returns-in-Ok-clause-works g c = record {
+pub returns-in-Ok-values_with-clause-works : goal.returns-in-Ok-values_with-clause-works
+returns-in-Ok-values_with-clause-works g c = record {
   went = went-then (went_wider {Whole = IsAbout c.args.source} {Homes = Nowhere} (λ place is. inl is) (λ rank never. never) c.in_ok-named.ensures.works.went) c.in_ok-found.ensures.works.went;
   fell = tt;
 }
 
-pub returns-in-Ok-clause-applied : goal.returns-in-Ok-clause-applied
-returns-in-Ok-clause-applied g c =
+pub returns-in-Ok-values_with-clause-applied : goal.returns-in-Ok-values_with-clause-applied
+returns-in-Ok-values_with-clause-applied g c =
     let mid = g.S.Store.state c.find_type.new.store in
     let ranges = subst IsInRange c.geometry-geometry.ensures c.keeps_ranges.ensures in
     let typed = subst (FindsType c.args.prop.now (g.S.Store.state c.args.store.now) mid) c.in-Some.is c.in_ok-named.ensures.found in
     let found = subst (FindsEdge c.args.source c.args.ordinal mid (g.S.Store.state c.find_edge.new.store)) c.in-Ok.is c.in_ok-found.ensures.found in
-    got_applied ranges c.in_ok-named.ensures.works.went.reaches typed found c.in-Ok-2.ensures c.reply_with.ensures
+    got_applied ranges c.in_ok-named.ensures.works.went.reaches typed found c.in-Ok-values_with.ensures c.reply_with.ensures
 
 pub returns-clause-works : goal.returns-clause-works
 returns-clause-works g c =

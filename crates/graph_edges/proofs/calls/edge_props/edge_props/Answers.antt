@@ -32,17 +32,17 @@ lines_of-requires g c =
     let found = subst (FindsEdge c.args.source c.args.ordinal (g.S.Store.state c.args.store.now) (g.S.Store.state c.find_edge.new.store)) c.in-Ok.is c.in_ok-found.ensures.found in
     props_known (subst IsInRange c.geometry-geometry.ensures c.keeps_ranges.ensures) found c.in_ok-names.ensures.found c.requires.stands c.in_ok-names.ensures.works.went.keeps.sound
 
-pub returns-in-Ok-clause-works : goal.returns-in-Ok-clause-works
-returns-in-Ok-clause-works g c = record {
+pub returns-in-Ok-lines_of-clause-works : goal.returns-in-Ok-lines_of-clause-works
+returns-in-Ok-lines_of-clause-works g c = record {
   went = went-then c.in_ok-found.ensures.works.went (went_wider {Whole = IsAbout c.args.source} {Homes = Nowhere} (λ place is. inl is) (λ rank never. never) c.in_ok-names.ensures.works.went);
   fell = tt;
 }
 
-pub returns-in-Ok-clause-applied : goal.returns-in-Ok-clause-applied
-returns-in-Ok-clause-applied g c =
+pub returns-in-Ok-lines_of-clause-applied : goal.returns-in-Ok-lines_of-clause-applied
+returns-in-Ok-lines_of-clause-applied g c =
     let found = subst (FindsEdge c.args.source c.args.ordinal (g.S.Store.state c.args.store.now) (g.S.Store.state c.find_edge.new.store)) c.in-Ok.is c.in_ok-found.ensures.found in
     shown_applied (subst IsInRange c.geometry-geometry.ensures c.keeps_ranges.ensures) (EProps c.args.source c.args.ordinal) (λ h. (0, omega arith, refl)) (λ h edge. reply.Props (lines_of_props h edge.props)) (λ h. refl)
-    found c.in_ok-names.ensures.found c.in_ok-names.ensures.works.went.reaches (λ h vertices edges edge named held. lines_shown h c.args.source c.args.ordinal edge named held c.in-Ok-2.ensures)
+    found c.in_ok-names.ensures.found c.in_ok-names.ensures.works.went.reaches (λ h vertices edges edge named held. lines_shown h c.args.source c.args.ordinal edge named held c.in-Ok-lines_of.ensures)
 
 pub returns-clause-works : goal.returns-clause-works
 returns-clause-works g c =

@@ -12,11 +12,11 @@ returns-in-Err-clause-applied g c =
     let found = subst (FindsRecord c.args.source c.args.ordinal (g.S.Store.state c.args.store.now) (g.S.Store.state c.find_record.new.store)) c.in-Err.is c.in_ok-found.ensures.found in
     refused_applied (subst IsInRange c.geometry-geometry.ensures c.keeps_ranges.ensures) (Target c.args.source c.args.ordinal) (λ h. (0, omega arith, refl)) (λ h edge. Ids (edge.target ∷ [])) (λ h. refl) found
 
-pub returns-in-Ok-clause-applied : goal.returns-in-Ok-clause-applied
-returns-in-Ok-clause-applied g c =
+pub returns-in-Ok-one_number-clause-applied : goal.returns-in-Ok-one_number-clause-applied
+returns-in-Ok-one_number-clause-applied g c =
     let found = subst (FindsRecord c.args.source c.args.ordinal (g.S.Store.state c.args.store.now) (g.S.Store.state c.find_record.new.store)) c.in-Ok.is c.in_ok-found.ensures.found in
     seen_applied (subst IsInRange c.geometry-geometry.ensures c.keeps_ranges.ensures) (Target c.args.source c.args.ordinal) (λ h. (0, omega arith, refl)) (λ h edge. Ids (edge.target ∷ [])) (λ h. refl) found
-    (λ h vertices edges edge held. target_shown vertices edges c.args.source c.args.ordinal edge held c.in-Ok-2.ensures)
+    (λ h vertices edges edge held. target_shown vertices edges c.args.source c.args.ordinal edge held c.in-Ok-one_number.ensures)
 
-pub returns-clause-works : goal.returns-clause-works
-returns-clause-works g c = record { went = tt; fell = went-gave_up c.in_ok-found.ensures.works.went c.give_up.ensures }
+pub returns-in-Err-one_number-clause-works : goal.returns-in-Err-one_number-clause-works
+returns-in-Err-one_number-clause-works g c = record { went = tt; fell = went-gave_up c.in_ok-found.ensures.works.went c.give_up.ensures }
