@@ -30,6 +30,9 @@ pub record HasLost (txn : Txn) (old now : StoreState Noted) : Type 0 where
 abbrev pub HasTried : Txn → StoreState Noted → StoreState Noted → Type 0
 HasTried txn old now = (now ≡ old) ⊎ HasLost txn old now
 
+none_told : (most : ℕ → ℕ) → None ≡ Some most → ⊥
+none_told most never = cc
+
 module _ {txn : Txn} {old now : StoreState Noted} where
   looks_too : HasLost txn old now → IsSome old.most ⊎ (is_writing txn ≡ false) → IsSome now.most ⊎ (is_writing txn ≡ false)
   looks_too lost premise = inr lost.anew.looks
@@ -74,7 +77,7 @@ module _ {txn : Txn} {old now : StoreState Noted} where
 
   -- ---- what is said of a try is said of the store before, which needn't have told its most
 
-  module _ (lost : HasLost txn old now) {new : StoreState Noted} where
+  module _ (lost : HasLost txn old now) (new : StoreState Noted) where
     commits_untold : KeepsCommits now new → KeepsCommits (untold old) new
     commits_untold commits = record {
       own = commits.own ∙ lost.own;
@@ -84,9 +87,6 @@ module _ {txn : Txn} {old now : StoreState Noted} where
 
     aborts_untold : Aborts now new → Aborts (untold old) new
     aborts_untold aborts = record { commits = commits_untold aborts.commits; ended = aborts.ended }
-
-    none_told : (most : ℕ → ℕ) → None ≡ Some most → ⊥
-    none_told most never = cc
 
     how_untold : (ended : Ended) → EndsAs txn now new ended → EndsAs txn (untold old) new ended
     how_untold (Wrote number replies) did = absurd (false≢true (sym lost.anew.looks ∙ did.writes))
@@ -126,9 +126,9 @@ module _ {txn : Txn} {old now : StoreState Noted} where
 
   pub ends_anew : {new : StoreState Noted} {ended : Ended} → HasTried txn old now → KeepsThrough txn now new → Ends txn now new ended → EvenAnew txn old new (λ first. Ends txn first new ended)
   ends_anew {new} {ended} (inl same) keeps ends = inl (subst (λ (first : StoreState Noted). Ends txn first new ended) same ends)
-  ends_anew {new} {ended} (inr lost) keeps ends = inr (anew_then lost.anew keeps, ends_untold lost ends)
+  ends_anew {new} {ended} (inr lost) keeps ends = inr (anew_then lost.anew keeps, ends_untold lost new ends)
 
   pub refused_anew : {reaches : Call → Shape → Place → Type 0} {new : StoreState Noted} {said : Said} → HasTried txn old now → KeepsThrough txn now new → said.passing ≡ false → IsRefused reaches txn now new said
       → EvenAnew txn old new (λ first. IsRefused reaches txn first new said)
   refused_anew {reaches} {new} {said} (inl same) keeps lasts did = inl (subst (λ (first : StoreState Noted). IsRefused reaches txn first new said) same did)
-  refused_anew {reaches} {new} {said} (inr lost) keeps lasts did = inr (anew_then lost.anew keeps, refused_untold lost lasts did)
+  refused_anew {reaches} {new} {said} (inr lost) keeps lasts did = inr (anew_then lost.anew keeps, refused_untold lost new lasts did)
