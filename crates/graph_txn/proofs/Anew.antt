@@ -1,8 +1,7 @@
 -- A transaction that only looks and was tried anew.
-use Rattle.std.proofs.Common.{◌≡◌, ◌∙◌, ℕ, ◌+◌, ◌<◌, ◌≤◌, true, false, List, length, Some, None, IsSome, refl, sym, ap, subst, arith, ◌⊎◌, inl, inr}
+use Rattle.std.proofs.Common.{◌≡◌, ◌∙◌, ℕ, ◌+◌, ◌<◌, ◌≤◌, true, false, length, Some, None, IsSome, sym, subst, arith, ◌⊎◌, inl, inr}
 use Rattle.std.proofs.lemmas.Bool.{false≢true}
 use Rattle.gdi_kinds.specs.declared.call.Call.{Call}
-use Rattle.gdi_kinds.specs.declared.reply.Reply.{Reply}
 use Rattle.gdi_kinds.specs.declared.txn.Txn.{Txn}
 use Rattle.gdi_kinds.specs.Calls.{is_writing}
 use Rattle.rma_layout.specs.Shape.{Shape}
@@ -15,7 +14,6 @@ use Rattle.graph_txn.specs.declared.ended.Ended.{Ended}
 use Rattle.graph_txn.specs.declared.ended.Ended.TheVariants.{Wrote, Read, Aborted}
 use Rattle.graph_txn.specs.Ending.{Ends, EndsAs, IsMadeOn, IsRefused, IsToCommit, IsTouched}
 use Rattle.graph_txn.specs.Keeping.{EvenAnew, KeepsThrough, LostTry, WasTriedAnew, untold}
-use Rattle.graph_txn.specs.Room.{HasRoom}
 use Rattle.graph_txn.proofs.Through.{prefix_length, through-then}
 
 -- tries were lost, and all of them have left

@@ -13,15 +13,15 @@ use Rattle.gdi_kinds.specs.Calls.{is_writing}
 use Rattle.rma_layout.specs.Shape.{Shape}
 use Rattle.rma_layout.specs.Placement.{Place}
 use Rattle.rma_layout.specs.Ranges.{IsInRange}
-use Rattle.object_words.specs.Contents.{Contents, words_at}
+use Rattle.object_words.specs.Contents.{words_at}
 use Rattle.object_words.specs.Entries.{Entry, HasBlocks, HasBlocksOnEach, store_after}
 use Rattle.graph_model.specs.Graph.{Graph}
 use Rattle.graph_model.specs.Capacity.{blocks_needed_on, blocks_used_on, makes, short_at_commit}
 use Rattle.graph_model.specs.Transactions.{replies_to}
 use Rattle.holder_codec.specs.Represents.{Represents}
 use Rattle.object_store.specs.declared.phase.Phase.TheVariants.{Idle, Reading}
-use Rattle.object_store.specs.State.{Said, StoreState, begun, committed, names_nothing, names_object, names_rank, next_entry}
-use Rattle.object_store.specs.Sound.{Continues, KeepsCommits, LosesTry}
+use Rattle.object_store.specs.State.{Said, StoreState, committed, names_nothing, names_object, names_rank, next_entry}
+use Rattle.object_store.specs.Sound.{Continues, LosesTry}
 use Rattle.object_store.specs.Calls.{Aborts, Commits, Finishes}
 use Rattle.object_store.specs.Refusals.{IsFirstWithoutBlocks, RefusesBegin, RefusesCommit}
 use Rattle.object_store.specs.Works.{RefusesReach}
@@ -31,9 +31,9 @@ use Rattle.graph_law.specs.declared.law.Noted.{Noted}
 use Rattle.graph_txn.specs.Ending.{HasAborted, HasRead, HasWritten, IsMadeOn, IsRefused, IsToCommit, IsTouched}
 use Rattle.graph_txn.specs.Keeping.{KeepsThrough, LostTry}
 use Rattle.graph_txn.specs.Room.{HasRoom, LacksRoom, overfull_at_make, overfull_rank}
-use Rattle.graph_txn.proofs.Going.{RoomIn, RunsOn, commits-then}
+use Rattle.graph_txn.proofs.Going.{RunsOn, commits-then}
 use Rattle.graph_txn.proofs.Needs.{stands_fits, uses_same}
-use Rattle.graph_txn.proofs.Room.{RoomSoFar, room_refused}
+use Rattle.graph_txn.proofs.Room.{room_refused}
 use Rattle.graph_txn.proofs.Through.{idle_writes_not, prefix_length, reads_looks, through, through-then, through_begun}
 
 names_apart : (rank : ℕ) → names_nothing ≡ names_rank rank → ⊥
@@ -84,8 +84,7 @@ module _ {reaches : Call → Shape → Place → Type 0} {txn : Txn} {replies : 
   -- what is told before the transaction is told at its end, of the same store
   told_now : (most : ℕ → ℕ) → old.most ≡ Some most → (g : Graph) → Represents old.shape (committed old) g → (mid.most ≡ Some most) × (mid.seen ≡ old.seen) × Represents mid.shape (committed mid) g
   told_now most told g is =
-      let seen = runs.commits.seen (ap is_some told) in
-      (
+      let seen = runs.commits.seen (ap is_some told) in (
         runs.most ∙ told,
         seen,
         subst (λ (shape : Shape). Represents shape (committed mid) g) (sym runs.keeps.shape) (subst (λ (history : List (Entry Noted)). Represents old.shape (store_after history) g) (sym seen) is),
@@ -122,8 +121,7 @@ module _ {reaches : Call → Shape → Place → Type 0} {txn : Txn} {replies : 
         × ((HasBlocks mid.shape (committed mid) mid.writes rank → ⊥) → nat_lt mid.shape.blocks (blocks_used_on mid.shape g rank + blocks_needed_on mid.shape g txn.calls rank) ≡ true)
     blocks_same g is rank within =
         let used = uses_same is ranges rank within in
-        let needed = ((next_fits ranges commits local).at (committed mid) g is runs.keeps.sound.agrees).needs rank within in
-        (
+        let needed = ((next_fits ranges commits local).at (committed mid) g is runs.keeps.sound.agrees).needs rank within in (
           λ has. not_short _ _ (omega (arith, used, needed, has)),
           λ lacks. is_short _ _ (λ enough. lacks (omega (arith, used, needed, enough))),
         )
@@ -240,7 +238,7 @@ module _ {reaches : Call → Shape → Place → Type 0} {txn : Txn} {call : Cal
           let so_far = runs.room most told_mid g is_mid in
           let made = refuses.makes (ap is_some told_mid) rank named so_far.now so_far.represents in
           let short : overfull_at_make most [] (makes old.shape g txn.calls) ≡ Some rank =
-              subst (λ (shape : Shape). overfull_at_make most [] (makes shape g txn.calls) ≡ Some rank) runs.keeps.shape (room_refused some so_far made (fell.full most rank told_mid named)) in
+          subst (λ (shape : Shape). overfull_at_make most [] (makes shape g txn.calls) ≡ Some rank) runs.keeps.shape (room_refused some so_far made (fell.full most rank told_mid named)) in
           ap (λ o. option_or o (cond (old.strict && is_writing txn && not txn.aborts) (short_at_commit old.shape g txn.calls) None)) short
 
 module _ {reaches : Call → Shape → Place → Type 0} {txn : Txn} {replies : List Reply} {old mid : StoreState Noted} (runs : RunsOn reaches txn [] replies old mid) where

@@ -1,7 +1,7 @@
 -- What a transaction keeps from its beginning to its last call, and where it stands then.
-use Rattle.std.proofs.Common.{◌≡◌, ◌≢◌, ◌∙◌, ℕ, ◌+◌, ◌<◌, ◌≤◌, Bool, true, false, ◌||◌, List, [], ◌∷◌, ◌++◌, length, Option, Some, None, IsSome, refl, sym, ap, subst, arith, ◌⊎◌, inl, inr, drop, get_or}
+use Rattle.std.proofs.Common.{◌≡◌, ◌≢◌, ◌∙◌, ℕ, ◌+◌, ◌<◌, ◌≤◌, Bool, true, false, ◌||◌, List, [], ◌∷◌, ◌++◌, length, Some, IsSome, refl, sym, ap, subst, arith, ◌⊎◌, inl, inr, drop, get_or}
 use Rattle.std.specs.Prelude.{is_some}
-use Rattle.std.specs.List.{AllByRecursion, Contains, list_any}
+use Rattle.std.specs.List.{Contains, list_any}
 use Rattle.std.proofs.lemmas.Bool.{false≢true}
 use Rattle.std.proofs.lemmas.List.{drop_all, drop_more}
 use Rattle.std.proofs.lemmas.List.Elements.{Contains-append_left, Contains-append_right, Contains-push}
@@ -15,13 +15,12 @@ use Rattle.rma_layout.specs.Ranges.{IsInRange}
 use Rattle.object_words.specs.Contents.{Contents, Agrees, words_at}
 use Rattle.object_words.specs.Entries.{Entry, store_after}
 use Rattle.graph_model.specs.Graph.{Graph}
-use Rattle.graph_model.specs.Capacity.{make_of}
 use Rattle.holder_codec.specs.Represents.{Represents}
 use Rattle.object_store.specs.declared.phase.Phase.{Phase}
 use Rattle.object_store.specs.declared.phase.Phase.TheVariants.{Idle, Reading, Writing}
 use Rattle.object_store.specs.State.{StoreState, begun, committed}
-use Rattle.object_store.specs.Sound.{Continues, KeepsCommits, StaysBegun}
-use Rattle.object_store.specs.Calls.{Begins, made_so_far}
+use Rattle.object_store.specs.Sound.{Continues, KeepsCommits}
+use Rattle.object_store.specs.Calls.{Begins}
 use Rattle.object_store.specs.Works.{Reaches}
 use Rattle.graph_law.specs.Calls.{AppliesCall, MayCall, MayMakeOn}
 use Rattle.graph_law.specs.Law.{Fits}

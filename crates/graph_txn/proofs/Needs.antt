@@ -1,5 +1,5 @@
 -- At the end of a transaction the store needs the blocks that the graph needs, and its entry fits.
-use Rattle.std.proofs.Common.{◌≡◌, ◌∙◌, ℕ, ◌+◌, ◌<◌, Bool, true, false, ◌&&◌, cond, List, [], ◌∷◌, refl, sym, ap, subst, arith}
+use Rattle.std.proofs.Common.{◌≡◌, ◌∙◌, ℕ, ◌<◌, Bool, true, false, ◌&&◌, cond, List, [], ◌∷◌, refl, sym, ap, subst, arith}
 use Rattle.std.specs.Prelude.{MatchBool, sum_by}
 use Rattle.std.specs.List.{list_all}
 use Rattle.std.proofs.lemmas.List.{append-nil}
@@ -78,7 +78,7 @@ module _ {shape : Shape} {calls : List Call} {replies : List Reply} {writes stor
   needs_same ranges ordered rank within =
       let made = stands.made rank within in
       let grew = grown shape store writes g stands.now first.well_formed stands.represents.well_formed first.vertices first.edges stands.represents.vertices stands.represents.edges
-          ranges ordered (view_of first ranges) (view_of stands.represents ranges) rank within (all_along shape g calls) (came_from rank) in
+      ranges ordered (view_of first ranges) (view_of stands.represents ranges) rank within (all_along shape g calls) (came_from rank) in
       let after = ap (λ h. sum_by (growth_of shape g h (graphs_along shape g calls) rank) (objects_on shape h rank)) stands.graph in
       omega (arith, made, grew, after)
 

@@ -1,21 +1,18 @@
 -- The makes of calls one after the other find room, until one finds none.
-use Rattle.std.proofs.Common.{◌≡◌, ◌∙◌, ℕ, zero, suc, ◌+◌, ◌<◌, ◌≤◌, Bool, true, false, not, ◌&&◌, cond, List, [], ◌∷◌, ◌++◌, Option, Some, None, refl, sym, ap, subst, arith, mod-lt, nat_lt, if◌then◌else◌}
-use Rattle.std.specs.Prelude as prelude
+use Rattle.std.proofs.Common.{◌≡◌, ◌∙◌, ℕ, ◌+◌, ◌<◌, Bool, true, false, not, ◌&&◌, cond, List, [], ◌∷◌, ◌++◌, Option, Some, None, refl, sym, ap, subst, arith, mod-lt, nat_lt, if◌then◌else◌}
 use Rattle.std.specs.Prelude.{count_by, ◌==◌}
-use Rattle.std.specs.Option.{option_map_or, option_or, option_to_list}
-use Rattle.std.specs.List.{range_with_len}
+use Rattle.std.specs.Option.{option_map_or, option_to_list}
 use Rattle.std.proofs.lemmas.Bool.Decides.{nat_tests}
 use Rattle.gdi_kinds.specs.declared.call.Call.{Call}
 use Rattle.gdi_kinds.specs.declared.call.Call.TheVariants as call
-use Rattle.gdi_kinds.specs.declared.txn.Txn.{Txn}
 use Rattle.rma_layout.specs.Shape.{Shape}
-use Rattle.object_words.specs.Contents.{Contents, Agrees, overlay}
+use Rattle.object_words.specs.Contents.{Contents, overlay}
 use Rattle.object_words.specs.Blocks.{made_objects}
 use Rattle.graph_model.specs.Graph.{Graph}
 use Rattle.graph_model.specs.Calls.{graph_after_call}
 use Rattle.graph_model.specs.Capacity.{Object, is_object, make_of, makes, object_to_make, rank_if_made}
 use Rattle.holder_codec.specs.Represents.{Represents}
-use Rattle.graph_law.specs.Calls.{DoesCall, made_by}
+use Rattle.graph_law.specs.Calls.{made_by}
 use Rattle.graph_txn.specs.Room.{overfull_at_make}
 use Rattle.graph_txn.proofs.Standing.{count_by-append}
 

@@ -1,14 +1,14 @@
 -- What a whole transaction keeps, from the calls of its store.
-use Rattle.std.proofs.Common.{◌≡◌, ◌≢◌, ◌∙◌, ℕ, ◌+◌, ◌<◌, ◌≤◌, Bool, true, false, List, [], ◌∷◌, ◌++◌, length, refl, sym, ap, subst, arith, ◌⊎◌, inl, inr, IsSome}
+use Rattle.std.proofs.Common.{◌≡◌, ◌≢◌, ◌∙◌, ℕ, ◌+◌, ◌<◌, ◌≤◌, Bool, true, false, List, ◌++◌, length, refl, sym, ap, arith, ◌⊎◌, inl, inr, IsSome}
 use Rattle.std.proofs.lemmas.Bool.{false≢true}
-use Rattle.std.proofs.lemmas.List.{append_assoc, append-nil, length-append}
+use Rattle.std.proofs.lemmas.List.{append_assoc, length-append}
 use mathlib.Core.List.{IsPrefix}
 use Rattle.gdi_kinds.specs.declared.txn.Txn.{Txn}
 use Rattle.gdi_kinds.specs.Calls.{is_writing}
 use Rattle.object_store.specs.declared.phase.Phase.{Phase}
 use Rattle.object_store.specs.declared.phase.Phase.TheVariants.{Idle, Reading, Writing}
 use Rattle.object_store.specs.State.{StoreState, begun}
-use Rattle.object_store.specs.Sound.{Continues, IsSound}
+use Rattle.object_store.specs.Sound.{Continues}
 use Rattle.graph_law.specs.Law.{Fits}
 use Rattle.graph_law.specs.declared.law.Noted.{Noted}
 use Rattle.graph_txn.specs.Keeping.{KeepsThrough}

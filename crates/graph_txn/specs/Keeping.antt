@@ -1,5 +1,5 @@
 -- What a whole transaction keeps, whatever it answers, and what it means that it was tried anew.
-use Rattle.std.specs.Prelude.{◌≡◌, ◌⊎◌, ℕ, ◌+◌, ◌<◌, ◌≤◌, true, false, length, None, IsSome}
+use Rattle.std.specs.Prelude.{◌≡◌, ◌⊎◌, ◌+◌, ◌<◌, ◌≤◌, true, false, length, None, IsSome}
 use mathlib.Core.List.{IsPrefix}
 use Rattle.gdi_kinds.specs.declared.txn.Txn.{Txn}
 use Rattle.gdi_kinds.specs.Calls.{is_writing}

@@ -1,12 +1,10 @@
-use Rattle.std.proofs.Common.{rules, ◌≡◌, ◌∙◌, ◌+◌, ◌<◌, ◌∷◌, [], List, arith, drop, subst, sym, ap, true, false, inl, inr}
-use Rattle.std.specs.List.{AllByRecursion, list_any}
+use Rattle.std.proofs.Common.{rules, ◌≡◌, ◌∙◌, ◌+◌, List, arith, drop, subst, sym, true, inl, inr}
+use Rattle.std.specs.List.{AllByRecursion}
 use Rattle.gdi_kinds.specs.declared.call.Call.{Call}
 use Rattle.gdi_kinds.specs.declared.reply.Reply.{Reply}
 use Rattle.gdi_kinds.specs.Calls.{is_writing}
 use Rattle.rma_layout.specs.Ranges.{IsInRange}
-use Rattle.object_store.specs.State.{StoreState}
 use Rattle.object_store.proofs.Working.{explained-then}
-use Rattle.graph_law.specs.declared.law.Noted.{Noted}
 use Rattle.graph_txn.proofs.Standing.{stands_known}
 use Rattle.graph_txn.proofs.Going.{RunsOn, begun_idle, begun_reading, begun_writing, first_among, front_of, may_call, none_left, runs_first, runs_next, some_ranks}
 use Rattle.graph_txn.proofs.Ending.{begin_keeps, begin_refused, call_refused, commit_refused, ends_keep, gave_up_refused, has_aborted, has_read, has_written, next_fits, room_with_commit, room_without_commit}

@@ -1,5 +1,4 @@
-use Rattle.std.proofs.Common.{◌≡◌, ◌∙◌, ◌+◌, ◌<◌, arith, refl, subst, sym, ap, true, false, inl, inr}
-use Rattle.object_store.specs.State.{StoreState}
+use Rattle.std.proofs.Common.{◌∙◌, arith, refl, subst, sym, ap, inl, inr}
 use Rattle.object_store.specs.Sound.{StaysExplained}
 use Rattle.object_store.proofs.Working.{explained-then}
 use Rattle.graph_txn.specs.Ending.{IsRefused}
