@@ -1,12 +1,11 @@
 -- What giving back spares on a rank that is alone tells.
-use Rattle.std.proofs.Common.{◌≡◌, ◌≢◌, ℕ, ◌+◌, ◌-◌, ◌^◌, ◌<◌, ◌≤◌, ◌==◌, true, false, cond, eqb, List, [], ◌∷◌, length, get_or, set, refl, sym, ap, ◌∙◌, subst, inl, inr, arith, Option, Some, None, Result, Ok, Err, MatchResult, IsOk, eq-eqb, ne_eqb}
+use Rattle.std.proofs.Common.{◌≡◌, ◌≢◌, ℕ, ◌+◌, ◌^◌, ◌<◌, ◌≤◌, ◌==◌, true, cond, List, [], ◌∷◌, length, refl, sym, ap, ◌∙◌, subst, inl, inr, arith, Some, Result, Ok, Err, MatchResult, IsOk, eq-eqb, ne_eqb}
 use Rattle.std.specs.List.{AllByRecursion}
-use Rattle.std.proofs.lemmas.Bool.{cases_Bool, cases_eq, cases_lt, false≢true}
+use Rattle.std.proofs.lemmas.Bool.{cases_eq, cases_lt, false≢true}
 use Rattle.std.proofs.lemmas.List.{get_or_past, get_or-set_same, get_or-set_other}
 use Rattle.rma_layout.specs.Shape.{Shape}
 use Rattle.rma_layout.specs.Placement.{Place, same_place}
-use Rattle.object_words.specs.Blocks.{contents_use, on_rank, one_if}
-use Rattle.object_words.specs.Entries.{store_after}
+use Rattle.object_words.specs.Blocks.{on_rank, one_if}
 use Rattle.free_list.specs.Heads.{tag_of}
 use Rattle.free_list.specs.Lists.{number_to}
 use Rattle.window_rule.specs.View.{View, OwnBlock}
@@ -14,15 +13,15 @@ use Rattle.window_rule.specs.Partition.{places_of, times}
 use Rattle.window_rule.specs.RightsHold.{IsAlone}
 use Rattle.window_rule.specs.RoomHolds.{count_on}
 use Rattle.window_rule.specs.Pool.{Heads, MayBeFree, bound_of, own_next_of, raised, without_bound}
-use Rattle.window_rule.specs.Spares.{SpareEnds, AreChained, AreSpares, AreSparesOf, HasNone, HasSpares, first_spare_of, last_spare_of, without_spare}
+use Rattle.window_rule.specs.Spares.{AreChained, AreSpares, AreSparesOf, HasNone, HasSpares, first_spare_of, last_spare_of, without_spare}
 use Rattle.window_rule.specs.Trails.{Follows}
 use Rattle.window_rule.proofs.LockLemmas.{place_by_parts, same_place-false}
 use Rattle.window_rule.proofs.Coverage.{of_one}
 use Rattle.window_rule.proofs.SparesKept.{AreSpares-same, chained_same}
 use Rattle.window_rule.proofs.KeptSpares.{chained_once, some_number, spares_used}
 use Rattle.window_rule.proofs.Trails.{follows_trans}
-use Rattle.fabric.specs.Window.{RankModel, WindowModel}
-use Rattle.block_pool.specs.Gives.{Frees, OnlyBlocks, OthersStay}
+use Rattle.fabric.specs.Window.{RankModel}
+use Rattle.block_pool.specs.Gives.{Frees, OnlyBlocks}
 use Rattle.block_pool.specs.Takes.{TakesSpare}
 use Rattle.block_pool.specs.Alone.{HasLowTag, HasTag}
 use Rattle.block_pool.specs.Drains.{Drains, DrainsHome}

@@ -1,5 +1,5 @@
 -- Blocks of a rank's own that are no spares stay so while others are taken and given back.
-use Rattle.std.proofs.Common.{◌≡◌, ◌≢◌, ℕ, ◌+◌, ◌<◌, ◌≤◌, List, [], ◌∷◌, get_or, set, length-set, refl, sym, ap, ◌∙◌, subst, inl, inr, ◌⊎◌, arith, Some, Result, Ok, Err, MatchResult}
+use Rattle.std.proofs.Common.{◌≡◌, ◌≢◌, ℕ, ◌<◌, ◌≤◌, List, [], ◌∷◌, get_or, set, length-set, refl, sym, ap, ◌∙◌, subst, inl, inr, arith, Some, Result, Ok, Err, MatchResult}
 use Rattle.std.specs.List.{AllByRecursion}
 use Rattle.std.proofs.lemmas.Bool.{cases_eq, cases_lt}
 use Rattle.std.proofs.lemmas.List.{get_or_past, get_or-set_same, get_or-set_other}
@@ -10,13 +10,13 @@ use Rattle.free_list.specs.Lists.{number_to}
 use Rattle.window_rule.specs.View.{View, OwnBlock}
 use Rattle.window_rule.specs.Partition.{places_of, times}
 use Rattle.window_rule.specs.Pool.{MayBeFree, own_next_of}
-use Rattle.window_rule.specs.Spares.{SpareEnds, AreSparesOf, HasSpares, IsNoSpare, first_spare_of, last_spare_of, with_spare, without_spare}
+use Rattle.window_rule.specs.Spares.{SpareEnds, AreSparesOf, HasSpares, IsNoSpare, first_spare_of, with_spare, without_spare}
 use Rattle.window_rule.proofs.LockLemmas.{same_place-false}
 use Rattle.window_rule.proofs.SparesKept.{chained_same, link-popped}
 use Rattle.window_rule.proofs.KeptSpares.{chain_is_own, linked_is_own, no_spare_differs, same_spares, some_number}
 use Rattle.fabric.specs.Window.{RankModel}
 use Rattle.block_pool.specs.Gives.{Frees, IsForUse, Keeps, MayGive, OthersStay}
-use Rattle.block_pool.specs.Takes.{Pops, Refusal, Takes, TakesFree, TakesSpare}
+use Rattle.block_pool.specs.Takes.{Refusal, Takes, TakesFree, TakesSpare}
 use Rattle.block_pool.specs.declared.refused.PoolRefused.{PoolRefused}
 use Rattle.block_pool.proofs.Drained.{IsChain, shorter}
 

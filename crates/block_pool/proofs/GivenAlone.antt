@@ -1,14 +1,13 @@
 -- What a rank that is alone knows once it has tried to give a block back.
-use Rattle.std.proofs.Common.{◌≡◌, ◌≢◌, ℕ, ◌+◌, ◌-◌, ◌^◌, ◌<◌, refl, sym, ap, ◌∙◌, subst, arith, Some}
+use Rattle.std.proofs.Common.{◌≡◌, ℕ, ◌-◌, ◌^◌, refl, sym, ap, ◌∙◌, subst, arith}
 use Rattle.rma_layout.specs.Shape.{Shape}
 use Rattle.rma_layout.specs.Placement.{Place}
 use Rattle.free_list.specs.Heads.{tag_of}
 use Rattle.window_rule.specs.View.{View}
-use Rattle.window_rule.specs.Pool.{Heads, bound_of, linked, pushed}
+use Rattle.window_rule.specs.Pool.{Heads, linked, pushed}
 use Rattle.window_rule.specs.RightsHold.{IsAlone}
 use Rattle.fabric.specs.Window.{RankModel}
 use Rattle.block_pool.specs.Alone.{GivesAlone, PushesAlone, Raises}
-use Rattle.block_pool.specs.declared.giving.Push.{Push}
 use Rattle.block_pool.specs.declared.giving.Push.TheVariants.{Made, Refused}
 use Rattle.block_pool.specs.Gives.{Frees}
 use Rattle.block_pool.proofs.TakenAlone.{exchange_raises, last_tag, load_raises}

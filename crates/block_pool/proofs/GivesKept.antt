@@ -1,14 +1,13 @@
 -- What one try to give a block back tells.
-use Rattle.std.proofs.Common.{◌≡◌, ◌≢◌, ℕ, ◌+◌, ◌<◌, ◌^◌, List, [], ◌∷◌, ◌++◌, refl, sym, ap, ◌∙◌, subst, inl, inr, arith, Option, Some, None, ◌==◌, cond, eq-eqb}
+use Rattle.std.proofs.Common.{◌≡◌, ℕ, ◌+◌, ◌<◌, List, [], ◌∷◌, ◌++◌, refl, sym, ap, ◌∙◌, subst, inl, inr, arith, Option, Some, None, ◌==◌, cond, eq-eqb}
 use Rattle.std.specs.List.{AllByRecursion}
-use Rattle.std.proofs.lemmas.Bool.{cases_Bool, cases_eq}
+use Rattle.std.proofs.lemmas.Bool.{cases_Bool}
 use Rattle.std.proofs.lemmas.List.Sums.{sum_by-cons}
 use Rattle.rma_layout.specs.Shape.{Shape}
 use Rattle.rma_layout.specs.Placement.{Place, IsBlock, same_place}
 use Rattle.object_words.specs.Blocks.{one_if}
 use Rattle.free_list.specs.Heads.{first_of, tag_of}
-use Rattle.free_list.specs.Lists.{number_to}
-use Rattle.window_rule.specs.View.{View, OwnBlock, HeadNote, Look, Miss}
+use Rattle.window_rule.specs.View.{View, OwnBlock, HeadNote}
 use Rattle.window_rule.specs.Locks.{hold_of}
 use Rattle.window_rule.specs.Partition.{places_of, times}
 use Rattle.window_rule.specs.RightsHold.{IsAlone}
@@ -22,11 +21,10 @@ use Rattle.window_rule.proofs.SparesKept.{AreSpares-same, link-here, link-linked
 use Rattle.window_rule.proofs.KeptSpares.{no_spare_differs, same_spares, spares_as_before}
 use Rattle.window_rule.proofs.Trails.{prefix-trans}
 use mathlib.Core.List.{IsPrefix}
-use Rattle.block_pool.specs.Moves.{Failed, IsUnworn, IsWorn, Looked}
+use Rattle.block_pool.specs.Moves.{Failed, IsUnworn, Looked}
 use Rattle.fabric.specs.Window.{RankModel}
 use Rattle.window_rule.specs.Trails.{Follows}
 use Rattle.block_pool.specs.Gives.{Frees, IsKeptFor, Keeps, MayGive, OnlyBlocks, OthersStay, Relinks}
-use Rattle.block_pool.proofs.TriesKept.{head_looked}
 
 -- where a block that is no spare leads elsewhere, the spares are as they were
 module _ (shape : Shape) (own after : List OwnBlock) (ends : SpareEnds) (block : Place)

@@ -1,5 +1,5 @@
 -- What a rank that is alone knows once it has tried to take a block.
-use Rattle.std.proofs.Common.{◌≡◌, ◌≢◌, ℕ, ◌+◌, ◌-◌, ◌^◌, ◌<◌, ◌≤◌, List, [], ◌∷◌, length, refl, sym, ap, ◌∙◌, arith, Some, Result, Ok, Err}
+use Rattle.std.proofs.Common.{◌≡◌, ◌≢◌, ℕ, ◌+◌, ◌-◌, ◌^◌, ◌<◌, ◌≤◌, List, [], ◌∷◌, length, refl, sym, ap, ◌∙◌, arith, Some, Ok, Err}
 use Rattle.rma_layout.specs.Shape.{Shape}
 use Rattle.rma_layout.specs.Placement.{Place}
 use Rattle.free_list.specs.Heads.{first_of, tag_of}
@@ -7,8 +7,7 @@ use Rattle.free_list.specs.Lists.{number_to}
 use Rattle.window_rule.specs.View.{View}
 use Rattle.window_rule.specs.Pool.{Heads, bound_of, raised, without_bound}
 use Rattle.window_rule.specs.RightsHold.{IsAlone}
-use Rattle.block_pool.specs.Alone.{Counts, Raises, TakesAlone, used_blocks}
-use Rattle.block_pool.specs.declared.refused.PoolRefused.{PoolRefused}
+use Rattle.block_pool.specs.Alone.{Raises, TakesAlone}
 use Rattle.block_pool.specs.declared.refused.PoolRefused.TheVariants.{Empty, Worn}
 use Rattle.block_pool.proofs.Drained.{loaded_here, loaded_other, no_first, raised_here, raised_other}
 

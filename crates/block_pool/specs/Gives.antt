@@ -6,7 +6,7 @@ use Rattle.object_words.specs.Blocks.{one_if}
 use Rattle.window_rule.specs.View.{View, OwnBlock}
 use Rattle.window_rule.specs.Locks.{hold_of}
 use Rattle.window_rule.specs.Partition.{places_of, times}
-use Rattle.window_rule.specs.Spares.{HasSpares, IsNoSpare, own_next_of, with_spare}
+use Rattle.window_rule.specs.Spares.{IsNoSpare, own_next_of, with_spare}
 use Rattle.fabric.specs.Window.{RankModel}
 use Rattle.block_pool.specs.Moves.{Failed, IsWorn, Looked}
 use Rattle.block_pool.specs.declared.giving.Push.{Push}

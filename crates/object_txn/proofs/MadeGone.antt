@@ -1,12 +1,12 @@
 -- The block of an object that was made and has words is with the object after the commit.
-use Rattle.std.proofs.Common.{◌≡◌, ◌≢◌, ℕ, ◌+◌, ◌-◌, ◌<◌, ◌≤◌, List, [], ◌∷◌, ◌++◌, drop, take, zero, suc, length, inl, inr, refl, sym, ap, ◌∙◌, subst, arith, Option, Some, None}
+use Rattle.std.proofs.Common.{◌≡◌, ◌≢◌, ℕ, ◌+◌, ◌<◌, ◌≤◌, List, [], ◌∷◌, ◌++◌, drop, take, zero, suc, length, inl, inr, refl, sym, ap, ◌∙◌, subst, arith, Option, Some, None}
 use Rattle.std.specs.Option.{unwrap_or}
 use Rattle.std.specs.List.{AllByRecursion}
 use Rattle.std.proofs.lemmas.List.{take-append-drop}
 use Rattle.rma_layout.specs.Shape.{Shape}
 use Rattle.rma_layout.specs.Placement.{Place, same_place}
 use Rattle.object_words.specs.Blocks.{one_if}
-use Rattle.object_words.specs.Contents.{Contents, content_of, words_at}
+use Rattle.object_words.specs.Contents.{content_of, words_at}
 use Rattle.object_words.specs.Entries.{Entry}
 use Rattle.window_rule.specs.Objects.{BeginsAt, chain_length}
 use Rattle.window_rule.specs.Partition.{places_of, times}

@@ -1,4 +1,4 @@
-use Rattle.std.proofs.Common.{◌≡◌, ◌≢◌, ◌+◌, ◌<◌, ◌^◌, ap, sym, ◌∙◌, subst, refl, arith}
+use Rattle.std.proofs.Common.{ap, sym, ◌∙◌, subst, arith}
 use Rattle.rma_layout.specs.Placement.{IsBlock}
 use Rattle.window_rule.specs.Pool.{Nexts}
 use Rattle.block_pool.proofs.Walks.{walk_at, walk_begins, walk_ends, walk_on}

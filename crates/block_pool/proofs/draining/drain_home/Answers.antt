@@ -1,4 +1,4 @@
-use Rattle.std.proofs.Common.{◌≡◌, ◌<◌, sym, ap, ◌∙◌, subst, arith}
+use Rattle.std.proofs.Common.{sym, ap, ◌∙◌, subst, arith}
 use Rattle.window_rule.specs.Spares.{HasSpares}
 use Rattle.block_pool.proofs.MovesKept.{alone_still}
 use Rattle.block_pool.proofs.Drained.{draining_begins, draining_ends, draining_on, taken_has}

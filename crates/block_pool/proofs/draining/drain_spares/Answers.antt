@@ -1,4 +1,4 @@
-use Rattle.std.proofs.Common.{◌≡◌, ◌<◌, ◌≤◌, sym, ap, ◌∙◌, subst, arith}
+use Rattle.std.proofs.Common.{◌≡◌, ap, ◌∙◌, subst, arith}
 use Rattle.window_rule.specs.Trails.{trail_of}
 use Rattle.window_rule.proofs.Trails.{goes_on-refl}
 use Rattle.block_pool.proofs.MovesKept.{alone_still}

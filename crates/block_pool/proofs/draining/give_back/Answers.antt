@@ -1,4 +1,4 @@
-use Rattle.std.proofs.Common.{◌≡◌, ◌≢◌, ◌+◌, ℕ, Some, sym, ap, ◌∙◌, subst, arith}
+use Rattle.std.proofs.Common.{◌≡◌, ◌≢◌, ◌+◌, sym, ap, ◌∙◌, subst, arith}
 use Rattle.free_list.specs.Heads.{tag_of}
 use Rattle.window_rule.specs.Pool.{Heads, bound_of, missed, pushed, with_link, without_bound}
 use Rattle.window_rule.specs.Spares.{IsNoSpare}

@@ -1,4 +1,4 @@
-use Rattle.std.proofs.Common.{◌≡◌, sym, ap, ◌∙◌, subst, Some}
+use Rattle.std.proofs.Common.{sym, ap, ◌∙◌, subst, Some}
 use Rattle.window_rule.specs.Pool.{MayBeFree, own_next_of}
 use Rattle.window_rule.specs.Spares.{first_spare_of}
 use Rattle.window_rule.proofs.SparesKept.{link-here}

@@ -1,8 +1,8 @@
-use Rattle.std.proofs.Common.{◌≡◌, ◌<◌, sym, ap, ◌∙◌, subst, refl, arith}
+use Rattle.std.proofs.Common.{◌<◌, sym, ap, ◌∙◌, subst, refl, arith}
 use Rattle.std.proofs.lemmas.Bool.{false≢true}
 use Rattle.window_rule.specs.Partition.{places_of, times}
 use Rattle.window_rule.specs.Pool.{Heads, own_next_of, with_link}
-use Rattle.window_rule.specs.Spares.{HasSpares, IsNoSpare}
+use Rattle.window_rule.specs.Spares.{IsNoSpare}
 use Rattle.window_rule.proofs.SparesKept.{link-linked}
 use Rattle.block_pool.specs.Gives.{OnlyBlocks}
 use Rattle.block_pool.specs.Moves.{Looked}
