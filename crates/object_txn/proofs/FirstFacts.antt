@@ -360,3 +360,12 @@ pub owns_beside : {N : Type 0} (window : WindowModel) (before after : RankModel 
 owns_beside window before after old new was follows spares own bounds taken tied =
     subst (OwnsTaken window.shape after) (sym (ap (λ t. t.items) taken))
     (owns_still window.shape before after old.taken.items follows tied.closed.clean spares own bounds was.owns)
+
+-- a call that takes nothing keeps what is counted in the first transaction
+pub first_kept : {N : Type 0} (fits : Shape → Entry N → Type 0) (shape : Shape) (opened before after : RankModel N) (old new : Txn)
+    → CountsFirst shape opened before old → Follows before.view after.view → IsTrueView fits shape after.view
+    → Agrees new.reads (store_after after.view.seen) → after.view.dirty ≡ [] → after.spares ≡ before.spares
+    → after.view.private ≡ before.view.private → after.view.bounds ≡ before.view.bounds → new.taken ≡ old.taken → new.first ≡ old.first
+    → ((block : Place) → words_at old.writes block ≢ None → words_at new.writes block ≢ None) → CountsFirst shape opened after new
+first_kept fits shape opened before after old new counts follows is agrees clean spares own bounds taken same kept = λ first ready.
+    counts_kept fits shape before after old new (counts (sym same ∙ first) ready) follows is agrees clean spares own bounds taken kept

@@ -2,11 +2,15 @@ use Rattle.std.proofs.Common.{◌≢◌, refl, sym, ap, ◌∙◌, subst, arith,
 use Rattle.rma_layout.specs.Placement.{Place}
 use Rattle.object_words.specs.Contents.{Contents, with_words}
 use Rattle.window_rule.specs.View.{Known, Locks, OwnBlock, View}
+use Rattle.object_words.specs.Blocks.{contents_use}
+use Rattle.object_words.specs.Entries.{store_after}
 use Rattle.window_rule.specs.Partition.{places_of, times}
+use Rattle.window_rule.specs.RoomHolds.{count_on}
 use Rattle.window_rule.specs.ContentsHold.{Lasts}
 use Rattle.window_rule.specs.Locks.{hold_of}
 use Rattle.object_store.specs.declared.phase.Phase.TheVariants.{Idle}
 use Rattle.object_txn.specs.Tied.{HasChains, IsTied, KnowsChains}
+use Rattle.object_txn.proofs.AloneFacts.{owns_still}
 use Rattle.object_txn.proofs.Explaining.{explains_earlier}
 use Rattle.object_txn.proofs.MakingFacts.{made_may, noted_more, unwritten_by}
 use Rattle.object_txn.proofs.NotedFacts.{chains_locked, chains_noted, chains_read, chains_written, empty_chain, noted_here}
@@ -131,4 +135,61 @@ returns-clause-owns g c = λ block.
       c.take_one.ensures.owns block,
       ap (λ (v : View g.row.L-Note.Denot). times block (places_of v.private)) c.mark.ensures.locked.view,
       ap (λ (o : List OwnBlock). times block (places_of o)) c.meet.ensures.private,
+    )
+
+pub returns-in-Err-clause-alone : goal.returns-in-Err-clause-alone
+returns-in-Err-clause-alone g c = λ was.
+    owns_still c.args.window.now.shape c.take_one.new.rank c.mark.new.rank c.take_one.new.taken.items c.mark.ensures.follows
+    (ap (λ (v : View g.row.L-Note.Denot). v.dirty) c.mark.ensures.locked.view
+    ∙ (ap (λ (v : View g.row.L-Note.Denot). v.dirty) c.take_one.ensures.only ∙ c.requires.tied.closed.clean)) c.mark.ensures.spares
+    (ap (λ (v : View g.row.L-Note.Denot). v.private) c.mark.ensures.locked.view) (ap (λ (v : View g.row.L-Note.Denot). v.bounds) c.mark.ensures.locked.view)
+    (c.take_one.ensures.alone was)
+
+pub returns-in_err-put-clause-alone : goal.returns-in_err-put-clause-alone
+returns-in_err-put-clause-alone g c = λ was.
+    owns_still c.args.window.now.shape c.mark.new.rank c.meet.new.rank c.take_one.new.taken.items c.meet.ensures.follows
+    c.meet.ensures.tied.closed.clean c.meet.ensures.spares c.meet.ensures.private c.meet.ensures.bounds
+    (owns_still c.args.window.now.shape c.take_one.new.rank c.mark.new.rank c.take_one.new.taken.items c.mark.ensures.follows
+    (ap (λ (v : View g.row.L-Note.Denot). v.dirty) c.mark.ensures.locked.view
+    ∙ (ap (λ (v : View g.row.L-Note.Denot). v.dirty) c.take_one.ensures.only ∙ c.requires.tied.closed.clean)) c.mark.ensures.spares
+    (ap (λ (v : View g.row.L-Note.Denot). v.private) c.mark.ensures.locked.view) (ap (λ (v : View g.row.L-Note.Denot). v.bounds) c.mark.ensures.locked.view)
+    (c.take_one.ensures.alone was))
+
+pub returns-in_err-put-2-clause-alone : goal.returns-in_err-put-2-clause-alone
+returns-in_err-put-2-clause-alone g c = λ was.
+    owns_still c.args.window.now.shape c.mark.new.rank c.meet.new.rank c.take_one.new.taken.items c.meet.ensures.follows
+    c.meet.ensures.tied.closed.clean c.meet.ensures.spares c.meet.ensures.private c.meet.ensures.bounds
+    (owns_still c.args.window.now.shape c.take_one.new.rank c.mark.new.rank c.take_one.new.taken.items c.mark.ensures.follows
+    (ap (λ (v : View g.row.L-Note.Denot). v.dirty) c.mark.ensures.locked.view
+    ∙ (ap (λ (v : View g.row.L-Note.Denot). v.dirty) c.take_one.ensures.only ∙ c.requires.tied.closed.clean)) c.mark.ensures.spares
+    (ap (λ (v : View g.row.L-Note.Denot). v.private) c.mark.ensures.locked.view) (ap (λ (v : View g.row.L-Note.Denot). v.bounds) c.mark.ensures.locked.view)
+    (c.take_one.ensures.alone was))
+
+pub returns-in_err-put-3-clause-alone : goal.returns-in_err-put-3-clause-alone
+returns-in_err-put-3-clause-alone g c = λ was.
+    owns_still c.args.window.now.shape c.mark.new.rank c.meet.new.rank c.take_one.new.taken.items c.meet.ensures.follows
+    c.meet.ensures.tied.closed.clean c.meet.ensures.spares c.meet.ensures.private c.meet.ensures.bounds
+    (owns_still c.args.window.now.shape c.take_one.new.rank c.mark.new.rank c.take_one.new.taken.items c.mark.ensures.follows
+    (ap (λ (v : View g.row.L-Note.Denot). v.dirty) c.mark.ensures.locked.view
+    ∙ (ap (λ (v : View g.row.L-Note.Denot). v.dirty) c.take_one.ensures.only ∙ c.requires.tied.closed.clean)) c.mark.ensures.spares
+    (ap (λ (v : View g.row.L-Note.Denot). v.private) c.mark.ensures.locked.view) (ap (λ (v : View g.row.L-Note.Denot). v.bounds) c.mark.ensures.locked.view)
+    (c.take_one.ensures.alone was))
+
+pub returns-clause-alone : goal.returns-clause-alone
+returns-clause-alone g c = λ was.
+    owns_still c.args.window.now.shape c.mark.new.rank c.meet.new.rank c.take_one.new.taken.items c.meet.ensures.follows
+    c.meet.ensures.tied.closed.clean c.meet.ensures.spares c.meet.ensures.private c.meet.ensures.bounds
+    (owns_still c.args.window.now.shape c.take_one.new.rank c.mark.new.rank c.take_one.new.taken.items c.mark.ensures.follows
+    (ap (λ (v : View g.row.L-Note.Denot). v.dirty) c.mark.ensures.locked.view
+    ∙ (ap (λ (v : View g.row.L-Note.Denot). v.dirty) c.take_one.ensures.only ∙ c.requires.tied.closed.clean)) c.mark.ensures.spares
+    (ap (λ (v : View g.row.L-Note.Denot). v.private) c.mark.ensures.locked.view) (ap (λ (v : View g.row.L-Note.Denot). v.bounds) c.mark.ensures.locked.view)
+    (c.take_one.ensures.alone was))
+
+pub returns-in_err-at-clause-full : goal.returns-in_err-at-clause-full
+returns-in_err-at-clause-full g c = λ was named.
+    omega (
+      arith,
+      c.in_err-at.ensures.full was named,
+      ap (λ (v : View g.row.L-Note.Denot). contents_use c.args.window.now.shape (store_after v.seen) c.args.home) c.take_one.ensures.only,
+      ap (λ (o : List OwnBlock). count_on c.args.home (places_of o)) c.in_err-at.ensures.unmoved,
     )
