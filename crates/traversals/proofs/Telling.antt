@@ -28,6 +28,7 @@ use Rattle.graph_walks.specs.Reached.{AreNames, is_within, level_by, pair_if, pa
 use Rattle.graph_walks.proofs.Finding.{got, place-has}
 use Rattle.traversals.specs.Outline.{Outline, IsOf}
 use Rattle.traversals.specs.Questions.{Tells}
+use Rattle.traversals.proofs.Reaching.{no_vertex-levels, no_vertex-hood, vertex-levels, vertex-hood}
 use Rattle.traversals.proofs.Steps.{same_levels, same_walks}
 
 -- ---- lists that are told by members alone
@@ -62,15 +63,15 @@ module _ (outline : Outline) (id : ℕ) where
   there-is : (g : Graph) → IsOf g outline → is_vertex g id ≡ has outline.ids id
   there-is g is = vertex-listed g id ∙ sym (ap (λ ks. has ks id) is.ids)
 
-  pub levels-no_vertex : has outline.ids id ≡ false → Tells outline (call.Levels id) (reply.NoVertex id)
-  levels-no_vertex absent = λ shape g well is.
-      let no : is_vertex g id ≡ false = there-is g is ∙ absent in
+  pub levels-no_vertex : (pairs : List Pair) → length pairs ≡ 0 → pairs ≡ filter_map (λ j. pair_if j (level_by outline.steps (length outline.ids) id j)) outline.ids → Tells outline (call.Levels id) (reply.NoVertex id)
+  levels-no_vertex pairs empty told = λ shape g well is.
+      let no : is_vertex g id ≡ false = there-is g is ∙ no_vertex-levels outline id (sym (ap length told) ∙ empty) in
       let whole : answer_to shape g (call.Levels id) ≡ (record { graph = g; reply = reply.NoVertex id }) = rw no in
       sym (ap (λ (a : Answer). a.reply) whole)
 
-  pub hood-no_vertex : (depth : ℕ) → has outline.ids id ≡ false → Tells outline (call.Hood id depth) (reply.NoVertex id)
-  hood-no_vertex depth absent = λ shape g well is.
-      let no : is_vertex g id ≡ false = there-is g is ∙ absent in
+  pub hood-no_vertex : (depth : ℕ) (hood : List ℕ) → length hood ≡ 0 → hood ≡ filter (λ j. is_within depth (level_by outline.steps (length outline.ids) id j)) outline.ids → Tells outline (call.Hood id depth) (reply.NoVertex id)
+  hood-no_vertex depth hood empty told = λ shape g well is.
+      let no : is_vertex g id ≡ false = there-is g is ∙ no_vertex-hood outline id depth (sym (ap length told) ∙ empty) in
       let whole : answer_to shape g (call.Hood id depth) ≡ (record { graph = g; reply = reply.NoVertex id }) = rw no in
       sym (ap (λ (a : Answer). a.reply) whole)
 
@@ -79,9 +80,9 @@ module _ (outline : Outline) (id : ℕ) where
   level : (g : Graph) → IsOf g outline → (j : ℕ) → level_by outline.steps (length outline.ids) id j ≡ level_of g id j
   level g is j = same_levels outline.steps (graph_steps g) is.steps id j (length outline.ids) ∙ ap (λ b. least_below (λ n. is_walk_by (graph_steps g) n id j) b) (ap length is.ids ∙ length-keys g.vertices)
 
-  pub levels-done : (pairs : List Pair) → has outline.ids id ≡ true → pairs ≡ filter_map (λ j. pair_if j (level_by outline.steps (length outline.ids) id j)) outline.ids → Tells outline (call.Levels id) (reply.Levels pairs)
-  levels-done pairs there told = λ shape g well is.
-      let yes : is_vertex g id ≡ true = there-is g is ∙ there in
+  pub levels-done : (pairs : List Pair) → (length pairs ≡ 0 → ⊥) → pairs ≡ filter_map (λ j. pair_if j (level_by outline.steps (length outline.ids) id j)) outline.ids → Tells outline (call.Levels id) (reply.Levels pairs)
+  levels-done pairs some told = λ shape g well is.
+      let yes : is_vertex g id ≡ true = there-is g is ∙ vertex-levels outline id g well is (λ empty. some (ap length told ∙ empty)) in
       let all_levels : pairs ≡ filter_map (λ j. option_map (λ level. record { id = j; number = level }) (level_of g id j)) (keys g.vertices) =
       told ∙ ap (λ (f : ℕ → Option ℕ). filter_map (λ j. option_map (λ level. record { id = j; number = level }) (f j)) outline.ids) (λ i j. level g is j i)
       ∙ ap (λ ks. filter_map (λ j. option_map (λ level. record { id = j; number = level }) (level_of g id j)) ks) is.ids in
@@ -89,9 +90,9 @@ module _ (outline : Outline) (id : ℕ) where
       rw yes (ap (λ (ps : List Pair). record { graph = g; reply = reply.Levels ps }) (sym all_levels)) in
       sym (ap (λ (a : Answer). a.reply) whole)
 
-  pub hood-done : (depth : ℕ) (hood : List ℕ) → has outline.ids id ≡ true → hood ≡ filter (λ j. is_within depth (level_by outline.steps (length outline.ids) id j)) outline.ids → Tells outline (call.Hood id depth) (reply.Ids hood)
-  hood-done depth hood there told = λ shape g well is.
-      let yes : is_vertex g id ≡ true = there-is g is ∙ there in
+  pub hood-done : (depth : ℕ) (hood : List ℕ) → (length hood ≡ 0 → ⊥) → hood ≡ filter (λ j. is_within depth (level_by outline.steps (length outline.ids) id j)) outline.ids → Tells outline (call.Hood id depth) (reply.Ids hood)
+  hood-done depth hood some told = λ shape g well is.
+      let yes : is_vertex g id ≡ true = there-is g is ∙ vertex-hood outline id g well is depth (λ empty. some (ap length told ∙ empty)) in
       let all_within : hood ≡ filter (λ j. is_within depth (level_of g id j)) (keys g.vertices) =
       told ∙ ap (λ (f : ℕ → Option ℕ). filter (λ j. is_within depth (f j)) outline.ids) (λ i j. level g is j i) ∙ ap (λ ks. filter (λ j. is_within depth (level_of g id j)) ks) is.ids in
       let whole : answer_to shape g (call.Hood id depth) ≡ (record { graph = g; reply = reply.Ids hood }) =

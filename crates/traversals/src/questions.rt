@@ -31,10 +31,11 @@ impl FlatGraph {
     pub fn levels(&self, alloc: Global, id: u64) -> Result<Reply, NoMemory>
         ensures { IfOk result (Tells self.now (call.Levels id)) }
     {
-        if !self.is_vertex(id) {
+        let levels = levels_of(alloc, self.steps(), id)?;
+        // A vertex reaches itself.
+        if levels.len() == 0 {
             return Ok(Reply::NoVertex(id));
         }
-        let levels = levels_of(alloc, self.steps(), id)?;
         Ok(Reply::Levels(levels))
     }
 
@@ -42,10 +43,11 @@ impl FlatGraph {
     pub fn hood(&self, alloc: Global, id: u64, depth: u64) -> Result<Reply, NoMemory>
         ensures { IfOk result (Tells self.now (call.Hood id depth)) }
     {
-        if !self.is_vertex(id) {
+        let hood = hood_of(alloc, self.steps(), id, depth)?;
+        // A vertex reaches itself.
+        if hood.len() == 0 {
             return Ok(Reply::NoVertex(id));
         }
-        let hood = hood_of(alloc, self.steps(), id, depth)?;
         Ok(Reply::Ids(hood))
     }
 

@@ -1,0 +1,21 @@
+-- How many edges vertices have.
+use Rattle.std.specs.Prelude.{ℕ, List, count_by, map, ◌==◌}
+use Rattle.std.specs.List.{flat_map}
+use Rattle.graph_model.specs.Graph.{Graph}
+use Rattle.graph_model.specs.Walks.{graph_steps}
+use Rattle.traversals.specs.declared.flat_edge.FlatEdge.{FlatEdge}
+use Rattle.traversals.specs.Edges.{steps_by}
+
+-- how many of some steps lead from a vertex, and to it
+abbrev pub from_count : List (ℕ × ℕ) → ℕ → ℕ
+from_count steps id = count_by (λ step. step.0 == id) steps
+
+abbrev pub to_count : List (ℕ × ℕ) → ℕ → ℕ
+to_count steps id = count_by (λ step. step.1 == id) steps
+
+-- how many edges lead from a vertex, and to it: an undirected one counts as both at each of its ends
+abbrev pub out_degree : Graph → ℕ → ℕ
+out_degree g id = from_count (graph_steps g) id
+
+abbrev pub in_degree : Graph → ℕ → ℕ
+in_degree g id = to_count (graph_steps g) id
