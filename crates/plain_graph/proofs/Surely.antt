@@ -1,7 +1,7 @@
 -- What calls may need and add at the most, by the objects that they touch as they left them.
 use Rattle.std.proofs.Common.{◌≡◌, ℕ, ◌+◌, ◌-◌, ◌<◌, ◌≤◌, Bool, true, false, List, [], ◌∷◌, map, if◌then◌else◌, None, refl, sym, ap, subst, ◌∙◌, arith}
 use Rattle.std.specs.Prelude.{◌==◌}
-use Rattle.std.specs.List.{AllByRecursion, sum_by}
+use Rattle.std.specs.List.{AllByRecursion}
 use Rattle.std.proofs.Math.Nat.{le-max_left}
 use Rattle.std.proofs.lemmas.List.Sums.{sum_by-cons}
 use Rattle.gdi_kinds.specs.declared.call.Call.{Call}
@@ -106,15 +106,16 @@ module _ (shape : Shape) (g : Graph) (calls : List Call) where
         used_last shape g calls growths touched.sound touched.apart touched.cover touched.each (first_in_order shape g calls touched.sound) rank (blocks_used_on shape g rank) (blocks_used_on shape g rank + after - before) refl refl in
         omega (arith, last, afters_most rank growths touched.each)
 
-    pub surely_room : (txn : Txn) (used most : Rooms) → 0 < shape.ranks → txn.calls ≡ calls → AreEnough shape g used
+    pub surely_room : (geometry : Shape) (txn : Txn) (used most : Rooms) (made : List ℕ) → geometry ≡ shape → 0 < geometry.ranks → calls ≡ txn.calls → made ≡ makes shape g calls → AreEnough shape g used
         → ((rank : ℕ) → taken_on most rank ≡ taken_on used rank + amount_on rank most_blocks growths)
-        → ((rank : ℕ) → rank < shape.ranks → taken_on most rank + times rank (makes shape g calls) ≤ shape.blocks)
+        → ((rank : ℕ) → rank < geometry.ranks → taken_on most rank + times rank made ≤ geometry.blocks)
         → full_rank shape g txn ≡ None
-    surely_room txn used most some these enough raised room =
-        room_on_each shape g txn some
+    surely_room geometry txn used most made same some these are enough raised room =
+        room_on_each shape g txn (subst (λ s. 0 < s.ranks) same some)
         (λ _ rank below.
-        let same : blocks_needed_on shape g txn.calls rank ≡ blocks_needed_on shape g calls rank = ap (λ cs. blocks_needed_on shape g cs rank) these in
-        omega (arith, same, needed_most rank, enough rank below, raised rank, room rank below))
+        let needed : blocks_needed_on shape g txn.calls rank ≡ blocks_needed_on shape g calls rank = ap (λ cs. blocks_needed_on shape g cs rank) (sym these) in
+        let fits : taken_on most rank + times rank made ≤ shape.blocks = subst (λ s. rank < s.ranks → taken_on most rank + times rank made ≤ s.blocks) same (room rank) below in
+        omega (arith, needed, needed_most rank, enough rank below, raised rank, fits, ap (times rank) are))
 
     pub surely_enough : (used most : Rooms) → AreEnough shape g used → ((rank : ℕ) → taken_on most rank ≡ taken_on used rank + amount_on rank most_blocks growths)
         → AreEnough shape (graph_after_calls shape g calls) most
@@ -135,15 +136,13 @@ module _ (geometry shape : Shape) (g : Graph) (calls : List Call) (made : List �
       subst (λ s. AllByRecursion (λ rank. rank < s.ranks) made) (sym same)
       (subst (AllByRecursion (λ rank. rank < shape.ranks)) (sym shows.makes) (makes_below shape g calls (subst (λ s. 0 < s.ranks) same some)))
 
-  pub shown_room : (txn : Txn) (used most : Rooms) → 0 < geometry.ranks → calls ≡ txn.calls → AreEnough shape g used
+  pub shown_room : (txn : Txn) (used most : Rooms) (ranks : List ℕ) → 0 < geometry.ranks → calls ≡ txn.calls → ranks ≡ made → AreEnough shape g used
       → ((rank : ℕ) → taken_on most rank ≡ taken_on used rank + amount_on rank most_blocks growths)
-      → ((rank : ℕ) → rank < geometry.ranks → taken_on most rank + times rank made ≤ geometry.blocks)
+      → ((rank : ℕ) → rank < geometry.ranks → taken_on most rank + times rank ranks ≤ geometry.blocks)
       → full_rank shape g txn ≡ None
-  shown_room txn used most some these enough raised room =
-      surely_room shape g calls (map (with_before shape g) growths) (shown_touched shape g calls made growths shows) txn used most (subst (λ s. 0 < s.ranks) same some) (sym these) enough
-      (λ rank. raised rank ∙ ap (λ n. taken_on used rank + n) (sym (same_most shape g calls rank growths)))
-      (subst (λ ranks. (rank : ℕ) → rank < shape.ranks → taken_on most rank + times rank ranks ≤ shape.blocks) shows.makes
-      (subst (λ s. (rank : ℕ) → rank < s.ranks → taken_on most rank + times rank made ≤ s.blocks) same room))
+  shown_room txn used most ranks some these are enough raised room =
+      surely_room shape g calls (map (with_before shape g) growths) (shown_touched shape g calls made growths shows) geometry txn used most ranks same some these (are ∙ shows.makes) enough
+      (λ rank. raised rank ∙ ap (λ n. taken_on used rank + n) (sym (same_most shape g calls rank growths))) room
 
   pub shown_enough : (used most : Rooms) → AreEnough shape g used → ((rank : ℕ) → taken_on most rank ≡ taken_on used rank + amount_on rank most_blocks growths)
       → AreEnough shape (graph_after_calls shape g calls) most

@@ -1,11 +1,10 @@
-use Rattle.std.proofs.Common.{◌≡◌, ◌+◌, ◌<◌, ◌≤◌, ◌∙◌, ℕ, sym, ap, subst, arith}
+use Rattle.std.proofs.Common.{◌+◌, ◌<◌, ◌∙◌, sym, ap, subst, arith}
 use Rattle.std.specs.List.{AllByRecursion}
 use Rattle.rma_layout.specs.Shape.{Shape}
 use Rattle.graph_model.specs.Graph.{Graph}
-use Rattle.graph_model.specs.Capacity.{makes}
 use Rattle.plain_graph.specs.Rooms.{taken_on}
 use Rattle.plain_graph.specs.Trials.{Tells}
-use Rattle.plain_graph.specs.Used.{AreUsed, HaveRanks, amount_on, most_blocks, times}
+use Rattle.plain_graph.specs.Used.{AreUsed, HaveRanks, amount_on, most_blocks}
 use Rattle.plain_graph.proofs.Keeping.{full_is, leaves_none, told_makes, told_touched}
 use Rattle.plain_graph.proofs.Surely.{surely_room}
 use Rattle.plain_graph.proofs.execution.full_on.Goals as goal
@@ -45,10 +44,9 @@ returns-in-Some-clause-full c =
     let raised = rw c.in-Some.is at c.in_ok-_most.ensures.raised in
     let room = rw c.in-Some.is at c.in_ok-_most.ensures.room in
     let used = c.args.usage.now.used in
-    sym (surely_room shape g calls trial.touched.items told.touched c.args.txn.now used c.in-Some._most (omega (arith, ap (λ (s : Shape). s.ranks) c.requires.shape, c.keeps_ranges.ensures.ranks.0)) (sym c.as_slice.ensures) c.requires.within.enough
-    (λ rank. raised rank ∙ ap (λ gs. taken_on used rank + amount_on rank most_blocks gs) c.as_slice-touched.ensures.value)
-    (subst (λ (s : Shape). (rank : ℕ) → rank < s.ranks → taken_on c.in-Some._most rank + times rank (makes shape g calls) ≤ s.blocks) c.requires.shape
-    (subst (λ ranks. (rank : ℕ) → rank < c.args.geometry.now.ranks → taken_on c.in-Some._most rank + times rank ranks ≤ c.args.geometry.now.blocks) (c.as_slice-makes.ensures.value ∙ told.makes) room)))
+    sym (surely_room shape g calls trial.touched.items told.touched c.args.geometry.now c.args.txn.now used c.in-Some._most c.as_slice-makes.result.now c.requires.shape
+    (omega (arith, c.keeps_ranges.ensures.ranks.0)) c.as_slice.ensures (c.as_slice-makes.ensures.value ∙ told.makes) c.requires.within.enough
+    (λ rank. raised rank ∙ ap (λ gs. taken_on used rank + amount_on rank most_blocks gs) c.as_slice-touched.ensures.value) room)
 
 pub returns-clause-full : goal.returns-clause-full
 returns-clause-full c =

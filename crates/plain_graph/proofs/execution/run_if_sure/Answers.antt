@@ -1,8 +1,7 @@
-use Rattle.std.proofs.Common.{◌≡◌, ◌+◌, ◌∙◌, ◌<◌, ◌≤◌, ℕ, Bool, if◌then◌else◌, sym, ap, subst, arith}
+use Rattle.std.proofs.Common.{◌+◌, ◌∙◌, ◌<◌, sym, ap, subst, arith}
 use Rattle.std.specs.List.{AllByRecursion}
-use Rattle.graph_model.specs.Transactions.{graph_after_calls, graph_after_txn}
 use Rattle.plain_graph.specs.Rooms.{taken_on}
-use Rattle.plain_graph.specs.Used.{HaveRanks, amount_on, most_blocks, times}
+use Rattle.plain_graph.specs.Used.{HaveRanks, amount_on, most_blocks}
 use Rattle.plain_graph.proofs.Keeping.{raised_within}
 use Rattle.plain_graph.proofs.Surely.{shown_enough, shown_makes, shown_ranks, shown_room}
 use Rattle.plain_graph.proofs.execution.run_if_sure.Goals as goal
@@ -26,9 +25,8 @@ returns-in-Some-clause-room c =
     let raised = rw c.in-Some.is at c.in_ok-most.ensures.raised in
     let room = rw c.in-Some.is at c.in_ok-most.ensures.room in
     shown_room c.args.geometry.now c.args.map.now.shape c.args.map.now.graph c.as_slice.result.now attempt.makes.items attempt.touched.items c.requires.shape c.in_ok-attempt.ensures.shows
-    c.args.txn.now c.args.usage.now.used c.in-Some.most (omega (arith, c.keeps_ranges.ensures.ranks.0)) c.as_slice.ensures c.requires.within.enough
-    (λ rank. raised rank ∙ ap (λ gs. taken_on c.args.usage.now.used rank + amount_on rank most_blocks gs) c.as_slice-2.ensures.value)
-    (subst (λ ranks. (rank : ℕ) → rank < c.args.geometry.now.ranks → taken_on c.in-Some.most rank + times rank ranks ≤ c.args.geometry.now.blocks) c.as_slice-makes.ensures.value room)
+    c.args.txn.now c.args.usage.now.used c.in-Some.most c.as_slice-makes.result.now (omega (arith, c.keeps_ranges.ensures.ranks.0)) c.as_slice.ensures c.as_slice-makes.ensures.value c.requires.within.enough
+    (λ rank. raised rank ∙ ap (λ gs. taken_on c.args.usage.now.used rank + amount_on rank most_blocks gs) c.as_slice-2.ensures.value) room
 
 pub returns-in-Some-clause-within : goal.returns-in-Some-clause-within
 returns-in-Some-clause-within c =

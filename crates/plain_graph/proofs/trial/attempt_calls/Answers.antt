@@ -1,13 +1,11 @@
-use Rattle.std.proofs.Common.{◌≡◌, suc, ◌+◌, ◌++◌, ◌∷◌, [], drop, drop-cons, append_assoc, sym, ap, subst, ◌∙◌, arith}
+use Rattle.std.proofs.Common.{◌≡◌, suc, ◌+◌, ◌++◌, ◌∷◌, drop, drop-cons, sym, ap, subst, ◌∙◌, arith}
 use Rattle.std.specs.Option.{option_to_list}
 use Rattle.std.proofs.lemmas.List.{append-nil, drop_all}
 use Rattle.gdi_kinds.specs.declared.call.Call.{Call}
 use Rattle.rma_layout.specs.Shape.{Shape}
-use Rattle.graph_model.specs.Graph.{Graph}
 use Rattle.graph_model.specs.Calls.{graph_after_call, reply_to}
 use Rattle.graph_model.specs.Capacity.{make_of}
 use Rattle.graph_model.specs.Transactions.{graph_after_calls, replies_to_calls}
-use Rattle.graph_undo.specs.Undo.{LeadBack}
 use Rattle.plain_graph.specs.Seen.{AreSeen}
 use Rattle.plain_graph.proofs.Trying.{AreAlong, one_more, reply_more, all_shown}
 use Rattle.plain_graph.proofs.trial.attempt_calls.Goals as goal
