@@ -3,5 +3,5 @@ pub mod Calling
 pub mod Unsetting
 pub mod ValueLists
 pub mod Typing
-pub mod Setting
+pub mod Putting
 pub mod Ways

@@ -8,10 +8,11 @@ use Rattle.std.specs.Option.{option_map_or, unwrap_or}
 use Rattle.std.specs.Ordering.{nat_cmp}
 use Rattle.std.specs.Str.{bytes_eq}
 use Rattle.std.proofs.lemmas.List.{length-append}
-use Rattle.gdi_kinds.specs.Constraint.{kind_of}
+use Rattle.gdi_kinds.specs.Constraint.{kind_of, same_kind}
 use Rattle.gdi_kinds.specs.declared.value.Kind.{Kind}
 use Rattle.gdi_kinds.specs.declared.value.Kind.TheVariants as kind
 use Rattle.gdi_kinds.specs.declared.value.Value.{Value}
+use Rattle.gdi_kinds.specs.declared.value.Value.TheVariants as variant
 use Rattle.rma_layout.specs.Placement.{Place}
 use Rattle.rma_layout.specs.Ranges.{IsInRange}
 use Rattle.rma_layout.specs.Shape.{Shape}
@@ -179,3 +180,14 @@ module _ {id : ℕ} {name : Name} {type : PropType} {object : Place} {old mid le
         };
     ordered = finds.stands.ordered;
   }
+
+pub kind_is : (value : Value) (k : Kind) → same_kind (kind_of value) k ≡ true → kind_of value ≡ k
+kind_is (variant.Int n) kind.Int is = refl
+kind_is (variant.Bool b) kind.Bool is = refl
+kind_is (variant.Text t) kind.Text is = refl
+kind_is (variant.Int n) kind.Bool is = absurd cc
+kind_is (variant.Int n) kind.Text is = absurd cc
+kind_is (variant.Bool b) kind.Int is = absurd cc
+kind_is (variant.Bool b) kind.Text is = absurd cc
+kind_is (variant.Text t) kind.Int is = absurd cc
+kind_is (variant.Text t) kind.Bool is = absurd cc

@@ -2,6 +2,11 @@
 #![tactic(auto)]
 
 mod calls;
+mod kinds;
+mod setting;
 mod spot;
+mod valued;
 
+pub use calls::vertex_add::vertex_add;
+pub use calls::vertex_set::vertex_set;
 pub use calls::vertex_unset::vertex_unset;
