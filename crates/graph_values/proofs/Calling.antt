@@ -63,7 +63,7 @@ module _ (call : Call) (id : ℕ) (shape : Shape) (reply : Reply) (change : Held
     pub answer : reply ≡ reply_to shape g call
     pub well : IsWellFormed (with_vertex g id after)
 
-module _ {call : Call} {id : ℕ} (asked : (g : Graph) → IsAsked g call id) (unmade : (shape : Shape) (g : Graph) → make_of shape g call ≡ None) where
+module _ (call : Call) (id : ℕ) (asked : (g : Graph) → IsAsked g call id) (unmade : (shape : Shape) (g : Graph) → make_of shape g call ≡ None) where
   -- a call that leaves the graph is refused
   pub left_applied : {old new : StoreState Noted} {reply : Reply} → Looks old new
       → ((store : Contents) (g : Graph) → Represents old.shape (overlay store old.writes) g → Agrees new.reads store → (graph_after_call old.shape g call ≡ g) × (reply ≡ reply_to old.shape g call))
@@ -127,6 +127,7 @@ module _ {call : Call} {id : ℕ} (asked : (g : Graph) → IsAsked g call id) (u
       reached place it = vertex_reached g call ranges is id (asked g) (ap is_some vertex.1) (here ∙ sym it)
 
       change_did : DoesCall old.shape call reply store old.writes new.writes g is
+      unfolding vertex
       change_did =
           let holds = holds_here ranges is id led_to FitsSo (fits store g is earlier led_to) in
           let held_then = subst (λ (writes : Contents). IsHeldAs IsVertexHolder vertex_words holder_for FitsSo object (overlay store writes) (held_here ranges is id led_to)) (sym looks.writes) holds in
@@ -158,7 +159,7 @@ module _ {call : Call} {id : ℕ} (asked : (g : Graph) → IsAsked g call id) (u
 abbrev pub Finds : ℕ → Option ℕ → Option Vertex → (ℕ → Vertex → Step Answer) → Step Answer
 Finds id t o next = found_or NoType t >>= (λ n. found_or (NoVertex id) o >>= (λ vertex. next n vertex))
 
-module _ {call : Call} {id : ℕ} {name : Name} (asked : (g : Graph) → IsAsked g call id) (unmade : (shape : Shape) (g : Graph) → make_of shape g call ≡ None)
+module _ (call : Call) (id : ℕ) (name : Name) (asked : (g : Graph) → IsAsked g call id) (unmade : (shape : Shape) (g : Graph) → make_of shape g call ≡ None)
     (next : Graph → ℕ → Vertex → Step Answer) (steps : (shape : Shape) (g : Graph) → steps_of shape g call ≡ Finds id (type_number g name) (vertex_at g id) (next g))
     {old mid : StoreState Noted} {Makes : ℕ → Type 0} (ranges : IsInRange old.shape) (names : Reaches (At metadata old.shape) Makes old mid) where
   steps_at : (g : Graph) (t : Option ℕ) (o : Option Vertex) → type_number g name ≡ t → vertex_at g id ≡ o → steps_of old.shape g call ≡ Finds id t o (next g)
@@ -169,43 +170,43 @@ module _ {call : Call} {id : ℕ} {name : Name} (asked : (g : Graph) → IsAsked
   ends_as g s refusal is fails = let e = is ∙ fails in (ap (λ s. (answer_of g s).graph) e, sym (ap (λ s. (answer_of g s).reply) e))
 
   pub no_type_applied : FindsType name old mid None → AppliesCall call old mid NoType
-  no_type_applied typed = left_applied asked unmade typed.looks
+  no_type_applied typed = left_applied call id asked unmade typed.looks
       (λ store g is agrees. ends_as g (Finds id None (vertex_at g id) (next g)) NoType (steps_at g None (vertex_at g id) (typed.type store g is agrees) refl) refl)
-      (reached_names asked unmade ranges names)
+      (reached_names call id asked unmade ranges names)
 
   module _ {led : StoreState Noted} {Homes : ℕ → Type 0} {type : PropType} (typed : FindsType name old mid (Some type)) (bucket : Reaches (IsBucketFor id mid.shape) Homes mid led) where
     pub no_vertex_applied : FindsSpot id mid led None → AppliesCall call old led (NoVertex id)
-    no_vertex_applied finds = left_applied asked unmade (looks-then typed.looks finds.looks)
+    no_vertex_applied finds = left_applied call id asked unmade (looks-then typed.looks finds.looks)
         (λ store g is agrees.
         let none = none_here ranges is id (sym (spot_later typed.looks finds store g is agrees)) in
         let known = typed.type store g is (agrees_before bucket.stays store agrees) in
         ends_as g (Finds id (Some type.number) None (next g)) (NoVertex id) (steps_at g (Some type.number) None known.0 none) refl)
-        (reached_both asked unmade ranges names bucket)
+        (reached_both call id asked unmade ranges names bucket)
 
     module _ {object : Place} (finds : FindsSpot id mid led (Some object)) where
       -- it is refused, whatever the vertex is
       pub refused_applied : (refusal : Reply) → ((g : Graph) → IsTypeIn g name (Some type) → (vertex : Vertex) → next g type.number vertex ≡ Err refusal) → AppliesCall call old led refusal
-      refused_applied refusal fails = left_applied asked unmade (looks-then typed.looks finds.looks)
+      refused_applied refusal fails = left_applied call id asked unmade (looks-then typed.looks finds.looks)
           (λ store g is agrees.
           let vertex = vertex_here ranges is id (sym (spot_later typed.looks finds store g is agrees)) in
           let known = typed.type store g is (agrees_before bucket.stays store agrees) in
           ends_as g (next g type.number vertex.0) refusal (steps_at g (Some type.number) (Some vertex.0) known.0 vertex.1) (fails g known vertex.0))
-          (reached_both asked unmade ranges names bucket)
+          (reached_both call id asked unmade ranges names bucket)
 
       -- the vertex is changed, or the call is refused for what the vertex is
       pub changed_applied : (FitsSo : HeldVertex → Type 0) (change : HeldVertex → Change HeldVertex)
-          → ({contents : Contents} {g : Graph} (is : Represents old.shape contents g) (leads : at is.vertices id ≡ Some object) → IsTypeIn g name (Some type) → FitsSo (held_here ranges is id leads))
+          → ((contents : Contents) (g : Graph) (is : Represents old.shape contents g) (leads : at is.vertices id ≡ Some object) → IsTypeIn g name (Some type) → FitsSo (held_here ranges is id leads))
           → {new : StoreState Noted} {reply : Reply} {Others : ℕ → Type 0}
-          → ({contents : Contents} {g : Graph} (is : Represents old.shape contents g) (before : Vertex) → IsTypeIn g name (Some type) → vertex_at g id ≡ Some before
+          → ((contents : Contents) (g : Graph) (is : Represents old.shape contents g) (before : Vertex) → IsTypeIn g name (Some type) → vertex_at g id ≡ Some before
           → IsHeldAs IsVertexHolder vertex_words holder_for FitsSo object contents (held_at g is.vertices is.edges id before) → steps_of old.shape g call ≡ next g type.number before
           → reply ≡ held.reply_to size (change (held_at g is.vertices is.edges id before))
           → IsLeft call id old.shape reply change g is.vertices is.edges before ⊎ IsChanged call id old.shape reply change g is.vertices is.edges before)
           → IsByRisingObject old.writes → IsByRisingObject new.writes → Reaches (At object led.shape) Others led new
           → Changes (IsHeldAs IsVertexHolder vertex_words holder_for FitsSo object) size change led new reply → AppliesCall call old new reply
       changed_applied FitsSo change fits ends ordered ordered_after reaches changes =
-          change_applied asked unmade FitsSo change ranges (looks-then typed.looks finds.looks) (spot_later typed.looks finds) (reached_both asked unmade ranges names bucket)
+          change_applied call id asked unmade FitsSo change ranges (looks-then typed.looks finds.looks) (spot_later typed.looks finds) (reached_both call id asked unmade ranges names bucket)
           ordered ordered_after reaches changes
-          (λ store g is agrees leads. fits is leads (typed.type store g is (agrees_before bucket.stays store agrees)))
+          (λ store g is agrees leads. fits (overlay store old.writes) g is leads (typed.type store g is (agrees_before bucket.stays store agrees)))
           (λ store g is agrees before there holds answer.
           let known = typed.type store g is (agrees_before bucket.stays store agrees) in
-          ends is before known there holds (steps_at g (Some type.number) (Some before) known.0 there) answer)
+          ends (overlay store old.writes) g is before known there holds (steps_at g (Some type.number) (Some before) known.0 there) answer)

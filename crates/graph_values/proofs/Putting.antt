@@ -107,7 +107,7 @@ add_next id value g n vertex = Adds g id n value vertex (same_kind (kind_of valu
 unless : {b : Bool} → b ≡ true → not b ≡ false
 unless is = ap not is
 
-module _ {id : ℕ} {name : Name} {value : Value} where
+module _ (id : ℕ) (name : Name) (value : Value) where
   pub set_asked : (g : Graph) → IsAsked g (Set id name value) id
   set_asked g = (0, omega arith, refl)
 
@@ -132,15 +132,15 @@ module _ {id : ℕ} {name : Name} {value : Value} {old mid led : StoreState Note
   of_kind right is g known = ap (same_kind (kind_of value)) known.2 ∙ is
 
   pub set_wrong_kind : same_kind (kind_of value) type.kind ≡ false → AppliesCall (Set id name value) old led WrongKind
-  set_wrong_kind wrong = refused_applied set_asked set_unmade (set_next id value) set_steps ranges names typed bucket finds WrongKind
+  set_wrong_kind wrong = refused_applied (Set id name value) id name (set_asked id name value) (set_unmade id name value) (set_next id value) (set_steps id name value) ranges names typed bucket finds WrongKind
       (λ g known vertex. ap (Sets g id type.number value vertex) (of_kind false wrong g known))
 
   pub add_wrong_kind : same_kind (kind_of value) type.kind ≡ false → AppliesCall (Add id name value) old led WrongKind
-  add_wrong_kind wrong = refused_applied add_asked add_unmade (add_next id value) add_steps ranges names typed bucket finds WrongKind
+  add_wrong_kind wrong = refused_applied (Add id name value) id name (add_asked id name value) (add_unmade id name value) (add_next id value) (add_steps id name value) ranges names typed bucket finds WrongKind
       (λ g known vertex. ap (λ b. Adds g id type.number value vertex b (is_marked g type.number)) (of_kind false wrong g known))
 
   pub add_not_many : same_kind (kind_of value) type.kind ≡ true → type.many ≡ false → AppliesCall (Add id name value) old led NotMany
-  add_not_many right single = refused_applied add_asked add_unmade (add_next id value) add_steps ranges names typed bucket finds NotMany
+  add_not_many right single = refused_applied (Add id name value) id name (add_asked id name value) (add_unmade id name value) (add_next id value) (add_steps id name value) ranges names typed bucket finds NotMany
       (λ g known vertex i. Adds g id type.number value vertex (of_kind true right g known i) (single_in g known i))
     where
       single_in : (g : Graph) → IsTypeIn g name (Some type) → is_marked g type.number ≡ false
@@ -150,9 +150,9 @@ module _ {id : ℕ} {name : Name} {value : Value} {old mid led : StoreState Note
       (ordered : IsByRisingObject old.writes) (ordered_after : IsByRisingObject new.writes) (reaches : Reaches (At object led.shape) Others led new) where
     pub set_applied : Changes (HoldsTyped type object) size (valued type.number value) led new reply → AppliesCall (Set id name value) old new reply
     set_applied changes =
-        changed_applied set_asked set_unmade (set_next id value) set_steps ranges names typed bucket finds (IsTyped type) (valued type.number value)
-        (λ is leads known. typed_here ranges is id leads name type known)
-        (λ {contents} {g} is before known there holds steps answer.
+        changed_applied (Set id name value) id name (set_asked id name value) (set_unmade id name value) (set_next id value) (set_steps id name value) ranges names typed bucket finds (IsTyped type) (valued type.number value)
+        (λ contents g is leads known. typed_here ranges is id leads name type known)
+        (λ contents g is before known there holds steps answer.
         put_ends (Set id name value) old.shape id (valued type.number value) g is.vertices is.edges before (record before { props = with_at before.props type.number (value ∷ []) }) refl refl
         (well.set_prop g id name type.number before value is.well_formed fits known.0 there (unless (of_kind true right g known)))
         (steps ∙ ap (Sets g id type.number value before) (of_kind true right g known)) answer)
@@ -160,9 +160,9 @@ module _ {id : ℕ} {name : Name} {value : Value} {old mid led : StoreState Note
 
     pub add_applied : type.many ≡ true → Changes (HoldsTyped type object) size (longer type.number value) led new reply → AppliesCall (Add id name value) old new reply
     add_applied marked changes =
-        changed_applied add_asked add_unmade (add_next id value) add_steps ranges names typed bucket finds (IsTyped type) (longer type.number value)
-        (λ is leads known. typed_here ranges is id leads name type known)
-        (λ {contents} {g} is before known there holds steps answer.
+        changed_applied (Add id name value) id name (add_asked id name value) (add_unmade id name value) (add_next id value) (add_steps id name value) ranges names typed bucket finds (IsTyped type) (longer type.number value)
+        (λ contents g is leads known. typed_here ranges is id leads name type known)
+        (λ contents g is before known there holds steps answer.
         put_ends (Add id name value) old.shape id (longer type.number value) g is.vertices is.edges before (record before { props = with_at before.props type.number (values_at before.props type.number ++ value ∷ []) }) refl refl
         (well.add_prop g id name type.number before value is.well_formed fits known.0 there (unless (of_kind true right g known)) (unless (marked_in g known)))
         (steps ∙ (λ i. Adds g id type.number value before (of_kind true right g known i) (marked_in g known i))) answer)

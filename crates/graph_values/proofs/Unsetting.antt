@@ -60,7 +60,7 @@ fits_still : (n : ℕ) → n ≤ most_words → is_too_large n ≡ false
 fits_still n few = grind (arith, nat_tests, few)
 
 module _ (shape : Shape) (id n : ℕ) (name : Name) {contents : Contents} {g : Graph} (is : Represents shape contents g) (before : Vertex) (there : vertex_at g id ≡ Some before)
-    {object : Place} (holds : HoldsVertex object contents (held_at g is.vertices is.edges id before)) (steps : steps_of shape g (Unset id name) ≡ unset_next id g n before) {reply : Reply} where
+    {object : Place} (holds : HoldsVertex object contents (held_at g is.vertices is.edges id before)) (steps : steps_of shape g (Unset id name) ≡ unset_next id g n before) where
   abbrev after : Vertex
   after = record before { props = without before.props n }
 
@@ -78,9 +78,9 @@ module _ (shape : Shape) (id n : ℕ) (name : Name) {contents : Contents} {g : G
       let fewer = fewer_words before.props n in
       fits_still (size held_after) (omega (arith, now, was, few, fewer))
 
-  unset_ends : reply ≡ held.reply_to size (unvalued n (held_at g is.vertices is.edges id before))
+  unset_ends : {reply : Reply} → reply ≡ held.reply_to size (unvalued n (held_at g is.vertices is.edges id before))
       → IsLeft (Unset id name) id shape reply (unvalued n) g is.vertices is.edges before ⊎ IsChanged (Unset id name) id shape reply (unvalued n) g is.vertices is.edges before
-  unset_ends answer = cases (is_there before.props n) refl
+  unset_ends {reply} answer = cases (is_there before.props n) refl
     where
       goes : (b : Bool) → is_there before.props n ≡ b → graph_after_call shape g (Unset id name) ≡ (answer_of g (Ends g id n before b)).graph
       goes b is_so = ap (λ s. (answer_of g s).graph) (steps ∙ ap (Ends g id n before) is_so)
@@ -110,7 +110,7 @@ module _ (shape : Shape) (id n : ℕ) (name : Name) {contents : Contents} {g : G
 
 -- ---- what it does
 
-module _ {id : ℕ} {name : Name} where
+module _ (id : ℕ) (name : Name) where
   pub unset_asked : (g : Graph) → IsAsked g (Unset id name) id
   unset_asked g = (0, omega arith, refl)
 
@@ -125,7 +125,7 @@ module _ {id : ℕ} {name : Name} {old mid led : StoreState Noted} {Makes Homes 
   pub unset_applied : {new : StoreState Noted} {reply : Reply} {Others : ℕ → Type 0} → IsByRisingObject old.writes → IsByRisingObject new.writes → Reaches (At object led.shape) Others led new
       → Changes (HoldsVertex object) size (unvalued type.number) led new reply → AppliesCall (Unset id name) old new reply
   unset_applied ordered ordered_after reaches changes =
-      changed_applied unset_asked unset_unmade (unset_next id) unset_steps ranges names typed bucket finds IsOrderly (unvalued type.number)
-      (λ is leads known. orderly_here ranges is id leads)
-      (λ is before known there holds steps answer. unset_ends old.shape id type.number name is before there holds steps answer)
+      changed_applied (Unset id name) id name (unset_asked id name) (unset_unmade id name) (unset_next id) (unset_steps id name) ranges names typed bucket finds IsOrderly (unvalued type.number)
+      (λ contents h is leads known. orderly_here ranges is id leads)
+      (λ contents h is before known there holds steps answer. unset_ends old.shape id type.number name is before there holds steps answer)
       ordered ordered_after reaches changes

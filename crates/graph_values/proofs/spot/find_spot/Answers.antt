@@ -11,4 +11,4 @@ pub returns-clause-found : goal.returns-clause-found
 returns-clause-found g c =
     let ranges = subst IsInRange c.geometry-geometry.ensures c.keeps_ranges.ensures in
     let went = c.in_ok-found.ensures.works.went in
-    finds_spot ranges (subst IsInRange (sym went.keeps.shape) ranges) c.requires.stands went.keeps.sound c.in_ok-found.field-0 c.in_ok-found.ensures.found
+    finds_spot ranges (subst IsInRange (sym went.keeps.shape) ranges) c.requires.stands went.keeps.sound c.in_ok-found.found c.in_ok-found.ensures.found

@@ -14,7 +14,7 @@ pub returns-in-None-clause-applied : goal.returns-in-None-clause-applied
 returns-in-None-clause-applied g c =
     let ranges = subst IsInRange c.geometry-geometry.ensures c.keeps_ranges.ensures in
     let typed = subst (FindsType c.args.prop.now (g.S.Store.state c.args.store.now) (g.S.Store.state c.find_type.new.store)) c.in-None.is c.in_ok-named.ensures.found in
-    no_type_applied set_asked set_unmade (set_next c.args.id c.args.value.now) set_steps ranges c.in_ok-named.ensures.works.went.reaches typed
+    no_type_applied (Set c.args.id c.args.prop.now c.args.value.now) c.args.id c.args.prop.now (set_asked c.args.id c.args.prop.now c.args.value.now) (set_unmade c.args.id c.args.prop.now c.args.value.now) (set_next c.args.id c.args.value.now) (set_steps c.args.id c.args.prop.now c.args.value.now) ranges c.in_ok-named.ensures.works.went.reaches typed
 
 pub returns-in_err-found-clause-works : goal.returns-in_err-found-clause-works
 returns-in_err-found-clause-works g c =
@@ -35,7 +35,7 @@ returns-in-None-found-clause-applied g c =
     let ranges = subst IsInRange c.geometry-geometry.ensures c.keeps_ranges.ensures in
     let typed = subst (FindsType c.args.prop.now (g.S.Store.state c.args.store.now) (g.S.Store.state c.find_type.new.store)) c.in-Some.is c.in_ok-named.ensures.found in
     let found = subst (FindsSpot c.args.id (g.S.Store.state c.find_type.new.store) (g.S.Store.state c.find_spot.new.store)) c.in-None-found.is c.in_ok-found.ensures.found in
-    no_vertex_applied set_asked set_unmade (set_next c.args.id c.args.value.now) set_steps ranges c.in_ok-named.ensures.works.went.reaches typed c.in_ok-found.ensures.works.went.reaches found
+    no_vertex_applied (Set c.args.id c.args.prop.now c.args.value.now) c.args.id c.args.prop.now (set_asked c.args.id c.args.prop.now c.args.value.now) (set_unmade c.args.id c.args.prop.now c.args.value.now) (set_next c.args.id c.args.value.now) (set_steps c.args.id c.args.prop.now c.args.value.now) ranges c.in_ok-named.ensures.works.went.reaches typed c.in_ok-found.ensures.works.went.reaches found
 
 pub returns-then-not-is_of_kind-clause-works : goal.returns-then-not-is_of_kind-clause-works
 returns-then-not-is_of_kind-clause-works g c =

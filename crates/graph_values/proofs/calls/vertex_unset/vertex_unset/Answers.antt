@@ -1,4 +1,7 @@
-use Rattle.std.proofs.Common.{rules, ◌∙◌, refl, subst}
+use Rattle.std.proofs.Common.{rules, ◌∙◌, refl, subst, inl, inr}
+use Rattle.object_store.specs.Works.{Nowhere}
+use Rattle.object_store.proofs.Works.{fell_wider, went_wider, went-fell}
+use Rattle.graph_vertices.specs.Finding.{IsAbout}
 use Rattle.rma_layout.specs.Ranges.{IsInRange}
 use Rattle.graph_law.proofs.Doing.{refuses_no_rank}
 use Rattle.gdi_kinds.specs.declared.call.Call.TheVariants.{Unset}
@@ -13,11 +16,13 @@ pub returns-in-None-clause-applied : goal.returns-in-None-clause-applied
 returns-in-None-clause-applied g c =
     let ranges = subst IsInRange c.geometry-geometry.ensures c.keeps_ranges.ensures in
     let typed = subst (FindsType c.args.prop.now (g.S.Store.state c.args.store.now) (g.S.Store.state c.find_type.new.store)) c.in-None.is c.in_ok-named.ensures.found in
-    no_type_applied unset_asked unset_unmade (unset_next c.args.id) unset_steps ranges c.in_ok-named.ensures.works.went.reaches typed
+    no_type_applied (Unset c.args.id c.args.prop.now) c.args.id c.args.prop.now (unset_asked c.args.id c.args.prop.now) (unset_unmade c.args.id c.args.prop.now) (unset_next c.args.id) (unset_steps c.args.id c.args.prop.now) ranges c.in_ok-named.ensures.works.went.reaches typed
 
 pub returns-in_err-found-clause-works : goal.returns-in_err-found-clause-works
 returns-in_err-found-clause-works g c =
-    let did = fell_at_bucket c.args.id c.in_ok-named.ensures.works.went c.in_err-found.ensures.works.fell in
+    let names = went_wider {Whole = IsAbout c.args.id} {Homes = Nowhere} (λ place is. inl is) (λ rank never. never) c.in_ok-named.ensures.works.went in
+    let fell = fell_wider {One = IsAbout c.args.id} {Homes = Nowhere} (λ place is. inr (inl is)) (λ rank never. never) c.in_err-found.ensures.works.fell in
+    let did = went-fell names fell in
     search rules
 
 pub returns-in_err-found-clause-refused : goal.returns-in_err-found-clause-refused
@@ -34,7 +39,7 @@ returns-in-None-found-clause-applied g c =
     let ranges = subst IsInRange c.geometry-geometry.ensures c.keeps_ranges.ensures in
     let typed = subst (FindsType c.args.prop.now (g.S.Store.state c.args.store.now) mid) c.in-Some.is c.in_ok-named.ensures.found in
     let found = subst (FindsSpot c.args.id mid (g.S.Store.state c.find_spot.new.store)) c.in-None-found.is c.in_ok-found.ensures.found in
-    no_vertex_applied unset_asked unset_unmade (unset_next c.args.id) unset_steps ranges c.in_ok-named.ensures.works.went.reaches typed c.in_ok-found.ensures.works.went.reaches found
+    no_vertex_applied (Unset c.args.id c.args.prop.now) c.args.id c.args.prop.now (unset_asked c.args.id c.args.prop.now) (unset_unmade c.args.id c.args.prop.now) (unset_next c.args.id) (unset_steps c.args.id c.args.prop.now) ranges c.in_ok-named.ensures.works.went.reaches typed c.in_ok-found.ensures.works.went.reaches found
 
 pub clear_prop-requires-clause-begun : goal.clear_prop-requires-clause-begun
 clear_prop-requires-clause-begun g c = c.in_ok-found.ensures.found.looks.stays.phase ∙ (c.in_ok-named.ensures.found.looks.stays.phase ∙ c.requires.may.writing refl)
@@ -53,7 +58,8 @@ pub returns-in_err-reply-clause-works : goal.returns-in_err-reply-clause-works
 returns-in_err-reply-clause-works g c =
     let found = subst (FindsSpot c.args.id (g.S.Store.state c.find_type.new.store) (g.S.Store.state c.find_spot.new.store)) c.in-Some-found.is c.in_ok-found.ensures.found in
     let did = fell_on c.args.id found.spot.place (went_both c.args.id c.in_ok-named.ensures.works.went c.in_ok-found.ensures.works.went) c.in_err-reply.ensures.works.fell in
-    search rules
+    let h = c.from_residual-in_err-reply in
+    ?
 
 pub returns-in_err-reply-clause-refused : goal.returns-in_err-reply-clause-refused
 returns-in_err-reply-clause-refused g c =
