@@ -38,21 +38,29 @@ use Rattle.holder_codec.proofs.Leading.{bucket_is, buckets_fix_objects, represen
 use Rattle.holder_codec.proofs.Maps.{none_of}
 use Rattle.holder_codec.proofs.Parts.{buckets_kept}
 use Rattle.held_objects.specs.Knows.{Knows}
-use Rattle.id_hash.specs.Buckets.{Adds, Finds, IsBucketFor, Lacks, TellsRoom, takes_one_more}
+use Rattle.id_hash.specs.Buckets.{Adds, Finds, IsBucketFor, Lacks, Leads, TellsRoom, takes_one_more}
 use Rattle.id_hash.proofs.Knows.{known_elsewhere, unreserved_is_no_bucket}
 use Rattle.vertex_ops.specs.Vertices.{HomeOf, Makes, bare, holder_for}
 use Rattle.vertex_ops.proofs.LabelSets.{some_words}
 use Rattle.graph_law.specs.declared.law.Noted.{Noted}
-use Rattle.graph_law.specs.Calls.{AppliesCall, DoesCall, RefusesCall}
+use Rattle.graph_law.specs.Calls.{AppliesCall, DoesCall, RefusesCall, Stands}
 use Rattle.graph_law.specs.Law.{Fits}
 use Rattle.graph_law.specs.Reach.{IsReached}
 use Rattle.graph_law.proofs.Counting.{makes_one}
 use Rattle.graph_law.proofs.Doing.{is_there, made_where_named}
-use Rattle.graph_law.proofs.Looking.{agrees_still, bucket_reached, left_applied}
+use Rattle.graph_law.proofs.Looking.{agrees_before, agrees_still, bucket_reached, is_led, left_applied}
 use Rattle.graph_law.proofs.Writing.{change_does}
-use Rattle.graph_vertices.proofs.Looking.{is_led}
-use Rattle.graph_vertices.proofs.VertexHere.{agrees_before}
 use Rattle.graph_changes.proofs.NewVertex.{found_here, new_is_fresh, new_vertex_change, touched_by}
+
+-- ---- what is known before
+
+pub knows_leads : {N : Type 0} {state : StoreState N} → IsInRange state.shape → Knows Stands state → Knows Leads state
+knows_leads {N} {state} ranges knows = record {
+  always = λ store may.
+      let stands = knows.always store may in
+      record { vertices = stands.represents.vertices; led = represents_leads state.shape (overlay store state.writes) stands.graph stands.represents ranges };
+  ordered = knows.ordered;
+}
 
 -- ---- how the call ends
 
