@@ -17,7 +17,7 @@ use Rattle.object_words.specs.Contents.{Agrees, Contents, IsByRisingObject, cont
 use Rattle.object_words.proofs.Overlays.{content-overlay, put_over}
 use Rattle.graph_model.specs.Calls.{graph_after_call, reply_to}
 use Rattle.graph_model.specs.Capacity.{OfVertex, make_of, rank_if_made}
-use Rattle.graph_model.specs.Graph.{Graph, Vertex, is_vertex, new_vertex, vertex_at}
+use Rattle.graph_model.specs.Graph.{Graph, is_vertex, new_vertex, vertex_at}
 use Rattle.graph_model.specs.Maps.{Map, at, keys, with_at}
 use Rattle.graph_model.specs.Sizes.{is_too_large, most_words, words_of_bucket}
 use Rattle.graph_model.specs.Steps.{Answer, Step, ◌>>=◌, answer_of, leaves, refused_if}

@@ -1,5 +1,5 @@
 -- A new vertex, in its object and in its bucket, is a change to the graph that has it.
-use Rattle.std.proofs.Common.{◌≡◌, ◌≢◌, ◌∙◌, ℕ, ◌≤◌, ◌<◌, Bool, true, false, cond, ◌&&◌, List, [], ◌∷◌, ◌++◌, map, length, nat_lt, Option, Some, None, IsSome, refl, sym, ap, subst, eq-eqb, arith, ◌⊎◌, inl, inr}
+use Rattle.std.proofs.Common.{◌≡◌, ◌≢◌, ◌∙◌, ℕ, ◌≤◌, ◌<◌, Bool, true, false, cond, ◌&&◌, List, [], ◌∷◌, ◌++◌, map, length, nat_lt, Option, Some, None, refl, sym, ap, subst, eq-eqb, arith, ◌⊎◌, inl, inr}
 use Rattle.std.specs.Prelude.{◌==◌, IsSomeAnd, is_some}
 use Rattle.std.specs.Option.{option_map_or, unwrap_or}
 use Rattle.std.specs.List.{AllByRecursion, filter, flat_map, range_with_len}
@@ -11,11 +11,11 @@ use Rattle.std.proofs.lemmas.Bool.{and_from, false≢true}
 use Rattle.std.proofs.lemmas.Bool.Decides.{nat_tests}
 use Rattle.rma_layout.specs.Shape.{Shape, reserved_blocks}
 use Rattle.rma_layout.specs.Ranges.{IsInRange}
-use Rattle.rma_layout.specs.Placement.{Place, IsReserved, bucket_of, home_of, metadata, same_place, slot_of}
+use Rattle.rma_layout.specs.Placement.{Place, bucket_of, home_of, metadata, same_place, slot_of}
 use Rattle.object_words.specs.Contents.{Contents, content_of, place_cmp}
 use Rattle.object_words.proofs.Places.{place_ties_itself, places_equal}
 use Rattle.graph_model.specs.Capacity.{Object, Reserved, OfVertex, OfHeavyEdge}
-use Rattle.graph_model.specs.Graph.{Edge, EdgeKey, Graph, Vertex, edges_from, edges_to, is_vertex, new_vertex, vertex_at}
+use Rattle.graph_model.specs.Graph.{Graph, is_vertex, new_vertex, vertex_at}
 use Rattle.graph_model.specs.Maps.{Map, add, at, has, keys, with_at}
 use Rattle.graph_model.specs.Sizes.{most_words}
 use Rattle.graph_model.specs.VertexCalls.{with_vertex}
@@ -25,12 +25,12 @@ use Rattle.holder_codec.specs.declared.edge_record.EdgeRecord.{EdgeRecord}
 use Rattle.holder_codec.specs.Bucket.{bucket_words}
 use Rattle.holder_codec.specs.Holders.{held_props, names_words, pair_words}
 use Rattle.holder_codec.specs.Parts.{IsSameAt}
-use Rattle.holder_codec.specs.Represents.{BucketsLead, EdgeObjects, IsBucket, IsUnreserved, Represents, VertexObjects, entries_of, holder_of, object_of, pairs_of_label, record_at_source, record_at_target, records_of}
+use Rattle.holder_codec.specs.Represents.{BucketsLead, IsBucket, IsUnreserved, Represents, VertexObjects, entries_of, holder_of, object_of, record_at_source, record_at_target, records_of}
 use Rattle.holder_codec.specs.Vertex.{vertex_words}
 use Rattle.holder_codec.proofs.Leading.{bucket_is, represents_leads}
 use Rattle.holder_codec.proofs.Maps.{none_of, none-by_keys}
 use Rattle.id_hash.proofs.Entries.{other_entries-with_at}
-use Rattle.object_view.specs.Change.{IsChange, IsNotAmong, IsTouched, RankObject}
+use Rattle.object_view.specs.Change.{IsChange, IsNotAmong, RankObject}
 use Rattle.object_view.specs.View.{IsOn, index_words, place_in, reserved_words, words_in}
 
 -- ---- maps and lists

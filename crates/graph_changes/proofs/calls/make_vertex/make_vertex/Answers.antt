@@ -2,7 +2,6 @@ use Rattle.std.proofs.Common.{rules, ◌∙◌, sym, subst, inl, inr}
 use Rattle.gdi_kinds.specs.declared.call.Call.TheVariants.{Vertex}
 use Rattle.rma_layout.specs.Ranges.{IsInRange}
 use Rattle.rma_layout.specs.Placement.{home_of}
-use Rattle.rma_layout.specs.Shape.{Shape}
 use Rattle.holder_codec.specs.Represents.{IsUnreserved}
 use Rattle.object_store.specs.Works.{Nowhere}
 use Rattle.object_store.proofs.Works.{fell_wider, made-fell, went_wider, went-fell, went-then}
