@@ -1,7 +1,6 @@
 -- An edge, as a transaction finds it in a store of a graph.
 use Rattle.std.proofs.Common.{◌≡◌, ◌∙◌, ℕ, true, false, Option, Some, None, Ok, Err, refl, sym, ap, subst, ◌⊎◌, inl, inr}
-use Rattle.std.specs.Prelude.{IsSome, is_some}
-use Rattle.std.specs.List.{find}
+use Rattle.std.specs.Prelude.{is_some}
 use Rattle.std.specs.Option.{ok_or, option_map, option_map_or}
 use Rattle.std.specs.Result.{result_map_both}
 use Rattle.gdi_kinds.specs.declared.reply.Reply.{Reply}
@@ -13,12 +12,12 @@ use Rattle.object_words.specs.Contents.{Agrees, Contents, content_of, overlay, w
 use Rattle.graph_model.specs.EdgeCalls.{edge_or_refusal}
 use Rattle.graph_model.specs.Graph.{Edge, Graph, Vertex, edge_at, edge_cmp, is_heavy, is_heavy_at, is_vertex, vertex_at}
 use Rattle.graph_model.proofs.Entries.{All-find, edge_cmp_same}
+use Rattle.graph_model.specs.Steps.{Step}
 use Rattle.holder_codec.specs.declared.edge_form.EdgeForm.{EdgeForm}
 use Rattle.holder_codec.specs.declared.edge_form.EdgeForm.TheVariants.{Plain, Labelled, Heavy}
 use Rattle.holder_codec.specs.declared.edge_holder.EdgeHolder.{EdgeHolder}
 use Rattle.holder_codec.specs.declared.edge_record.EdgeRecord.{EdgeRecord}
 use Rattle.holder_codec.specs.declared.vertex_holder.VertexHolder.{VertexHolder}
-use Rattle.holder_codec.specs.EdgeObject.{IsEdgeHolder, edge_object_words}
 use Rattle.holder_codec.specs.Represents.{IsUnreserved, Represents, edge_object_of, holder_of, object_of, record_at_source, records_of}
 use Rattle.holder_codec.proofs.EdgeObjectLaws.{edge_same}
 use Rattle.holder_codec.proofs.Fitting.{EdgeStands, each_stands}
@@ -26,7 +25,6 @@ use Rattle.object_store.specs.Sound.{IsSound}
 use Rattle.object_store.specs.State.{StoreState, committed}
 use Rattle.object_store.specs.Works.{Reaches}
 use Rattle.object_store.proofs.Works.{looks-then}
-use Rattle.held_objects.specs.Held.{FindsHolder, IsSpelled}
 use Rattle.held_objects.specs.Knows.{Knows}
 use Rattle.held_objects.proofs.Knows.{before, knows_after, still}
 use Rattle.edge_ops.specs.HeldEdges.{HoldsOwn, edge_holder_for, out_key}
@@ -45,7 +43,7 @@ use Rattle.graph_vertices.specs.Finding.{FindsVertex}
 use Rattle.graph_vertices.proofs.Showing.{from_map, from_none}
 use Rattle.graph_vertices.proofs.VertexHere.{agrees_before}
 use Rattle.graph_edges.specs.Finding.{FindsEdge, FindsRecord, found_of, key_of}
-use Rattle.graph_edges.proofs.Records.{edge_step, edge_there, found_out, from_err, from_ok}
+use Rattle.graph_edges.proofs.Records.{edge_step, edge_there, from_err, from_ok}
 
 -- ---- an edge by its record at its source
 
@@ -132,13 +130,14 @@ module _ {source ordinal : ℕ} {old new : StoreState Noted} (ranges : IsInRange
     reads = source_reads ordinal finds;
   }
 
-  pub source_found : {vertex : VertexHolder} {edge : Option EdgeRecord} → FindsVertex source old new (Some vertex) → edge ≡ record_for vertex.edges (out_key ordinal) → FindsRecord source ordinal old new (ok_or edge NoEdge)
-  source_found {vertex} {edge} finds found = record {
+  pub source_found : {vertex : VertexHolder} {edge : Option EdgeRecord} {result : Step EdgeRecord} → FindsVertex source old new (Some vertex) → edge ≡ record_for vertex.edges (out_key ordinal) → result ≡ ok_or edge NoEdge
+      → FindsRecord source ordinal old new result
+  source_found {vertex} {edge} {result} finds found is_it = record {
     looks = finds.looks;
     stands = finds.stands;
     edge = λ store g is agrees.
         let v = from_map (holder_of g is.vertices is.edges source) vertex (vertex_at g source) (finds.vertex store g is agrees) in
-        ap (λ (o : Option EdgeRecord). ok_or o NoEdge) (found ∙ ap (λ (h : VertexHolder). record_for h.edges (out_key ordinal)) v.2) ∙ found_here ranges is source ordinal v.0 v.1;
+        is_it ∙ (ap (λ (o : Option EdgeRecord). ok_or o NoEdge) (found ∙ ap (λ (h : VertexHolder). record_for h.edges (out_key ordinal)) v.2) ∙ found_here ranges is source ordinal v.0 v.1);
     reads = source_reads ordinal finds;
   }
 

@@ -1,5 +1,5 @@
 -- The calls that show an edge, on a store of a graph.
-use Rattle.std.proofs.Common.{◌≡◌, ◌∙◌, ℕ, ◌<◌, [], ◌∷◌, true, List, length, map, Option, Ok, Err, refl, sym, ap, subst, ◌⊎◌, inl, inr}
+use Rattle.std.proofs.Common.{◌≡◌, ◌∙◌, ℕ, ◌<◌, [], ◌∷◌, true, List, length, map, Ok, Err, refl, sym, ap, subst, ◌⊎◌, inl, inr}
 use Rattle.std.specs.List.{AllByRecursion}
 use Rattle.gdi_kinds.specs.declared.call.Call.{Call}
 use Rattle.gdi_kinds.specs.declared.prop_line.PropLine.{PropLine}

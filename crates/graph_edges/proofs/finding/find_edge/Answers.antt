@@ -1,4 +1,4 @@
-use Rattle.std.proofs.Common.{rules, inl, inr, sym, subst}
+use Rattle.std.proofs.Common.{rules, inr, subst}
 use Rattle.rma_layout.specs.Ranges.{IsInRange}
 use Rattle.object_store.specs.Works.{Nowhere}
 use Rattle.object_store.proofs.Works.{fell_wider, went_wider, went-fell, went-then}

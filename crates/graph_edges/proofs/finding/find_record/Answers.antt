@@ -1,10 +1,9 @@
-use Rattle.std.proofs.Common.{◌∙◌, List, ap, subst, sym}
+use Rattle.std.proofs.Common.{◌∙◌, List, ap, subst}
 use Rattle.rma_layout.specs.Ranges.{IsInRange}
 use Rattle.holder_codec.specs.declared.edge_record.EdgeRecord.{EdgeRecord}
 use Rattle.edge_ops.specs.HeldEdges.{out_key}
 use Rattle.edge_ops.specs.Records.{record_for}
 use Rattle.graph_vertices.specs.Finding.{FindsVertex}
-use Rattle.graph_edges.specs.Finding.{FindsRecord}
 use Rattle.graph_edges.proofs.EdgeHere.{no_source, source_found}
 use Rattle.graph_edges.proofs.Records.{found_out}
 use Rattle.graph_edges.proofs.finding.find_record.Goals as goal
@@ -18,7 +17,6 @@ returns-in-None-clause-found g c =
 pub returns-clause-found : goal.returns-clause-found
 returns-clause-found g c =
     let ranges = subst IsInRange c.geometry-geometry.ensures c.keeps_ranges.ensures in
-    let mid = g.S.Store.state c.find_vertex.new.store in
-    let found = subst (FindsVertex c.args.source (g.S.Store.state c.args.store.now) mid) c.in-Some.is c.in_ok-found.ensures.found in
+    let found = subst (FindsVertex c.args.source (g.S.Store.state c.args.store.now) (g.S.Store.state c.find_vertex.new.store)) c.in-Some.is c.in_ok-found.ensures.found in
     let edge = c.record_out-edge.ensures ∙ (found_out c.args.ordinal c.as_slice.result.now ∙ ap (λ (edges : List EdgeRecord). record_for edges (out_key c.args.ordinal)) c.as_slice.ensures) in
-    subst (FindsRecord c.args.source c.args.ordinal (g.S.Store.state c.args.store.now) mid) (sym c.ok_or.ensures.value) (source_found ranges found edge)
+    source_found ranges found edge c.ok_or.ensures.value
