@@ -1,5 +1,5 @@
 -- What calls leave, from what is noted before each.
-use Rattle.std.proofs.Common.{◌≡◌, ℕ, suc, ◌+◌, ◌<◌, ◌≤◌, length, get_or, drop, drop-cons, Bool, true, false, not, ◌&&◌, ◌||◌, List, [], ◌∷◌, ◌++◌, map, Option, Some, None, is_some, refl, sym, ap, subst, ◌∙◌, append_assoc, arith}
+use Rattle.std.proofs.Common.{◌≡◌, ℕ, suc, ◌+◌, ◌<◌, ◌≤◌, length, get_or, drop, drop-cons, Bool, true, false, not, ◌&&◌, ◌||◌, List, [], ◌∷◌, ◌++◌, map, if◌then◌else◌, Option, Some, None, is_some, refl, sym, ap, subst, ◌∙◌, append_assoc, arith}
 use Rattle.std.specs.Prelude.{◌==◌}
 use Rattle.std.specs.List.{AllByRecursion, IsDistinct, list_all}
 use Rattle.std.specs.List.Sorted.{IsStrictlySortedBy}
@@ -25,7 +25,7 @@ use Rattle.graph_model.specs.Capacity as capacity
 use Rattle.graph_model.specs.Capacity.Object.{Reserved as OfReserved, OfVertex, OfHeavyEdge}
 use Rattle.graph_model.proofs.Entries.{All-map, never}
 use Rattle.graph_undo.specs.Undo.{Undo, noted_before, Names, AtVertex, AtEdge, IsInOrder, HasEnds, IsEdgeOf}
-use Rattle.touched_objects.specs.Touched.{Spot, is_same_spot, is_touched, reserved_spot, label_spots, end_spots, touched_by}
+use Rattle.touched_objects.specs.Touched.{Spot, is_same_spot, is_touched, reserved_spot, labels_there, kept_spots, are_kept_alike, moved_spots, end_spots, touched_by}
 use Rattle.touched_objects.specs.Weights.{AreApart}
 use Rattle.touched_objects.specs.Needed.{noted_along, AreSound}
 use Rattle.touched_objects.specs.FromSteps.{touched_by_each, had}
@@ -88,17 +88,17 @@ none_lacks object name = or_true (not (is_same_name object name))
     or_true true = refl
     or_true false = refl
 
-and_trues : (b : Bool) → (b && (true && (true && true))) ≡ b
-and_trues true = refl
-and_trues false = refl
+and_true : (b : Bool) → (b && true) ≡ b
+and_true true = refl
+and_true false = refl
 
 and_two : (b : Bool) → (b && (true && true)) ≡ b
 and_two true = refl
 and_two false = refl
 
-pub vertex_had : (id : ℕ) (before : Option Vertex) (name : ObjectName) → ((not (is_same_name (OneVertex id) name) || is_some before) && (true && (true && true))) ≡ had (object_of name) (AtVertex id before)
+pub vertex_had : (id : ℕ) (before : Option Vertex) (name : ObjectName) → ((not (is_same_name (OneVertex id) name) || is_some before) && true) ≡ had (object_of name) (AtVertex id before)
 vertex_had id before (Reserved r block) = refl
-vertex_had id before (OneVertex j) = and_trues (not (id == j) || is_some before)
+vertex_had id before (OneVertex j) = and_true (not (id == j) || is_some before)
 vertex_had id before (HeavyEdge source ordinal) = refl
 
 pub edge_had : (key : EdgeKey) (before : Option Edge) (name : ObjectName)
@@ -142,13 +142,20 @@ module _ (shape : Shape) (within : IsInRange shape) where
   All-append [] ys one other = other
   All-append (x ∷ xs) ys one other = (one.0, All-append xs ys one.1 other)
 
-  labels_there : (id : ℕ) (vertex : Option Vertex) → AllByRecursion IsSpotThere (label_spots shape id vertex)
-  labels_there id None = tt
-  labels_there id (Some v) = each v.labels
+  kept_there : (id : ℕ) (labels : Option (List ℕ)) → AllByRecursion IsSpotThere (kept_spots shape id labels)
+  kept_there id None = tt
+  kept_there id (Some labels) = ((omega (arith, within.ranks, within.buckets), omega (arith, within.ranks, within.buckets)), each labels)
     where
-      each : (labels : List ℕ) → AllByRecursion IsSpotThere (map (λ label. reserved_spot (slot_of shape label id)) labels)
+      each : (ls : List ℕ) → AllByRecursion IsSpotThere (map (λ label. reserved_spot (slot_of shape label id)) ls)
       each [] = tt
-      each (label ∷ labels) = ((omega (arith, within.ranks, within.slots), omega (arith, within.ranks, within.slots)), each labels)
+      each (label ∷ ls) = ((omega (arith, within.ranks, within.slots), omega (arith, within.ranks, within.slots)), each ls)
+
+  moved_there : (id : ℕ) (now before : Option (List ℕ)) → AllByRecursion IsSpotThere (moved_spots shape id now before)
+  moved_there id now before =
+      elim (are_kept_alike now before) as (λ b. AllByRecursion IsSpotThere (if b then [] else kept_spots shape id now ++ kept_spots shape id before)) [
+        | true ↦ tt
+        | false ↦ All-append (kept_spots shape id now) (kept_spots shape id before) (kept_there id now) (kept_there id before)
+      ]
 
   ends_there : (key : EdgeKey) (edge : Option Edge) → AllByRecursion IsSpotThere (end_spots shape key edge)
   ends_there key None = tt
@@ -156,13 +163,7 @@ module _ (shape : Shape) (within : IsInRange shape) where
 
   step_there : (g : Graph) (step : Undo) → AllByRecursion IsSpotThere (touched_by shape g step)
   step_there g (Names labels types) = ((omega (arith, within.ranks), omega arith), tt)
-  step_there g (AtVertex id before) = (
-    tt,
-    (
-      (omega (arith, within.ranks, within.buckets), omega (arith, within.ranks, within.buckets)),
-      All-append (label_spots shape id (vertex_at g id)) (label_spots shape id before) (labels_there id (vertex_at g id)) (labels_there id before),
-    ),
-  )
+  step_there g (AtVertex id before) = (tt, moved_there id (labels_there (vertex_at g id)) (labels_there before))
   step_there g (AtEdge key before) = (
     tt,
     All-append (end_spots shape key (edge_at g key.source key.ordinal)) (end_spots shape key before) (ends_there key (edge_at g key.source key.ordinal)) (ends_there key before),

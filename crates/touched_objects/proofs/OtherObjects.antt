@@ -1,5 +1,5 @@
 -- What a step leaves of the objects that it doesn't touch.
-use Rattle.std.proofs.Common.{◌≡◌, ℕ, zero, suc, ◌+◌, ◌*◌, true, false, cond, not, ◌&&◌, ◌||◌, List, [], ◌∷◌, ◌++◌, map, length, if◌then◌else◌, Option, Some, None, is_some, refl, ap, ◌∙◌, arith}
+use Rattle.std.proofs.Common.{◌≡◌, ℕ, zero, suc, ◌+◌, ◌*◌, true, false, cond, not, ◌&&◌, ◌||◌, List, [], ◌∷◌, ◌++◌, map, length, if◌then◌else◌, Option, Some, None, is_some, refl, sym, ap, ◌∙◌, arith, true≢false}
 use Rattle.std.specs.Prelude.{◌==◌, nat_lt}
 use Rattle.std.specs.List.{sum_by, count_by}
 use Rattle.std.specs.Option.{option_map_or}
@@ -10,6 +10,7 @@ use Rattle.std.specs.FinMap.Entries.{find, find-put}
 use Rattle.std.proofs.lemmas.Bool.{or_parts}
 use Rattle.std.proofs.lemmas.Bool.Decides.{nat_tests}
 use Rattle.std.proofs.lemmas.List.Sums.{sum_by-cons, length-filter}
+use Rattle.std.proofs.lemmas.Slice.Eq.{bytes_eq-Decides}
 use Rattle.rma_layout.specs.Shape.{Shape}
 use Rattle.rma_layout.specs.Placement.{Place, same_place, home_of, bucket_of, slot_of}
 use Rattle.graph_model.specs.Graph.{Graph, Vertex, Edge, EdgeKey, edge_cmp, vertex_at, edge_at, is_heavy}
@@ -21,7 +22,7 @@ use Rattle.graph_model.proofs.Sets.{is_eq-nat_cmp}
 use Rattle.edge_index.proofs.EdgeMaps.{is_named, is_at-named}
 use Rattle.graph_undo.specs.Undo.{Undo, Names, AtVertex, AtEdge, vertex_put_back, edge_put_back, undone, rolled_back, IsInOrder}
 use Rattle.graph_undo.proofs.PutBack.{rises-put, rises-passing, weight, sum-put, sum-out, find-other}
-use Rattle.touched_objects.specs.Touched.{Spot, vertex_spot, reserved_spot, label_spots, end_spots, touched_by, touched_on_the_way, is_same_spot, is_touched, IsSameAt, OtherObjectsStay}
+use Rattle.touched_objects.specs.Touched.{Spot, vertex_spot, reserved_spot, labels_there, kept_spots, are_kept_alike, moved_spots, end_spots, touched_by, touched_on_the_way, is_same_spot, is_touched, IsSameAt, OtherObjectsStay}
 
 -- ---- among lists
 
@@ -32,18 +33,27 @@ not_touched-append (x ∷ xs) ys spot none =
     let rest = not_touched-append xs ys spot parts.1 in
     (ap (λ b. b || is_touched xs spot) parts.0 ∙ rest.0, rest.1)
 
+pub kept_alike : (now before : Option (List ℕ)) → are_kept_alike now before ≡ true → now ≡ before
+kept_alike None None alike = refl
+kept_alike None (Some ys) alike = absurd (true≢false (sym alike))
+kept_alike (Some xs) None alike = absurd (true≢false (sym alike))
+kept_alike (Some xs) (Some ys) alike = ap Some ((bytes_eq-Decides xs ys).0 alike)
+
 -- ---- a vertex put back
 
 module _ (shape : Shape) (g : Graph) (order : IsInOrder g) (id : ℕ) (before : Option Vertex) where
   abbrev left : Graph
   left = vertex_put_back g id before
 
-  vertex-sum : (f : ℕ × Vertex → ℕ) → weight nat_cmp nat_cmp_total nat_cmp-IsAntisymmetric f id (vertex_at g id) ≡ 0 → weight nat_cmp nat_cmp_total nat_cmp-IsAntisymmetric f id before ≡ 0 → sum_by f left.vertices ≡ sum_by f g.vertices
-  vertex-sum f old new =
-      elim before as (λ o. weight nat_cmp nat_cmp_total nat_cmp-IsAntisymmetric f id o ≡ 0 → sum_by f (vertex_put_back g id o).vertices ≡ sum_by f g.vertices) [
-        | None ↦ λ _. omega (arith, sum-out nat_cmp nat_cmp_total nat_cmp-IsAntisymmetric f id (λ e. e.0 == id) (λ e. is_eq-nat_cmp id e.0) g.vertices order.vertices, old)
-        | Some v ↦ λ none. omega (arith, sum-put nat_cmp nat_cmp_total nat_cmp-IsAntisymmetric f id v g.vertices order.vertices, old, none)
-      ] new
+  abbrev weight_with : (ℕ × Vertex → ℕ) → Option Vertex → ℕ
+  weight_with f o = weight nat_cmp nat_cmp_total nat_cmp-IsAntisymmetric f id o
+
+  vertex-sum : (f : ℕ × Vertex → ℕ) → weight_with f (vertex_at g id) ≡ weight_with f before → sum_by f left.vertices ≡ sum_by f g.vertices
+  vertex-sum f same =
+      elim before as (λ o. weight_with f (vertex_at g id) ≡ weight_with f o → sum_by f (vertex_put_back g id o).vertices ≡ sum_by f g.vertices) [
+        | None ↦ λ none. omega (arith, sum-out nat_cmp nat_cmp_total nat_cmp-IsAntisymmetric f id (λ e. e.0 == id) (λ e. is_eq-nat_cmp id e.0) g.vertices order.vertices, none)
+        | Some v ↦ λ equal. omega (arith, sum-put nat_cmp nat_cmp_total nat_cmp-IsAntisymmetric f id v g.vertices order.vertices, equal)
+      ] same
 
   vertex-other : (j : ℕ) → (id == j) ≡ false → vertex_at left j ≡ vertex_at g j
   vertex-other j other =
@@ -61,34 +71,52 @@ module _ (shape : Shape) (g : Graph) (order : IsInOrder g) (id : ℕ) (before : 
   vertex-types : left.types ≡ g.types
   vertex-types = elim before as (λ o. (vertex_put_back g id o).types ≡ g.types) [ None ↦ refl | Some v ↦ refl ]
 
-  -- no label of the vertex is kept there
-  kept_elsewhere : (place : Place) (o : Option Vertex) → is_touched (label_spots shape id o) (reserved_spot place) ≡ false
-      → weight nat_cmp nat_cmp_total nat_cmp-IsAntisymmetric (λ entry. count_by (λ label. same_place (slot_of shape label entry.0) place) entry.1.labels) id o ≡ 0
-  kept_elsewhere place None none = refl
-  kept_elsewhere place (Some v) none = none_kept v.labels none
-    where
-      none_kept : (labels : List ℕ) → is_touched (map (λ label. reserved_spot (slot_of shape label id)) labels) (reserved_spot place) ≡ false → count_by (λ label. same_place (slot_of shape label id) place) labels ≡ 0
-      none_kept [] none = refl
-      none_kept (l ∷ ls) none =
-          let parts = or_parts (is_same_spot (reserved_spot (slot_of shape l id)) (reserved_spot place)) (is_touched (map (λ label. reserved_spot (slot_of shape label id)) ls) (reserved_spot place)) none in
-          let here : cond (same_place (slot_of shape l id) place) 1 0 ≡ zero = ap (λ b. if b then suc zero else zero) parts.0 in
-          omega (arith, sum_by-cons (λ label. cond (same_place (slot_of shape label id) place) 1 0) l ls, here, none_kept ls parts.1)
+  -- a sum that looks at the labels alone
+  by_labels : (f : ℕ × Vertex → ℕ) (w : List ℕ → ℕ) → ((v : Vertex) → f (id, v) ≡ w v.labels) → (o : Option Vertex) → weight_with f o ≡ option_map_or w (labels_there o) 0
+  by_labels f w is None = refl
+  by_labels f w is (Some v) = is v
 
-  led_elsewhere : (place : Place) (o : Option Vertex) → same_place (bucket_of shape id) place ≡ false
-      → weight nat_cmp nat_cmp_total nat_cmp-IsAntisymmetric (λ entry. cond (same_place (bucket_of shape entry.0) place) 1 0) id o ≡ 0
-  led_elsewhere place None other = refl
-  led_elsewhere place (Some v) other = ap (λ b. if b then suc zero else zero) other
+  -- it stays where what it counts of the vertex is the same, and where it counts none
+  moved-sum : (f : ℕ × Vertex → ℕ) (w : List ℕ → ℕ) (place : Place) → ((v : Vertex) → f (id, v) ≡ w v.labels)
+      → ((labels : List ℕ) → is_touched (kept_spots shape id (Some labels)) (reserved_spot place) ≡ false → w labels ≡ 0)
+      → is_touched (moved_spots shape id (labels_there (vertex_at g id)) (labels_there before)) (reserved_spot place) ≡ false → sum_by f left.vertices ≡ sum_by f g.vertices
+  moved-sum f w place is elsewhere none =
+      vertex-sum f (by_labels f w is (vertex_at g id) ∙ equal (labels_there (vertex_at g id)) (labels_there before) none ∙ sym (by_labels f w is before))
+    where
+      nothing_there : (o : Option (List ℕ)) → is_touched (kept_spots shape id o) (reserved_spot place) ≡ false → option_map_or w o 0 ≡ 0
+      nothing_there None misses = refl
+      nothing_there (Some labels) misses = elsewhere labels misses
+
+      equal : (now then : Option (List ℕ)) → is_touched (moved_spots shape id now then) (reserved_spot place) ≡ false → option_map_or w now 0 ≡ option_map_or w then 0
+      equal now then misses =
+          elim (are_kept_alike now then) as (λ b. are_kept_alike now then ≡ b → is_touched (if b then [] else kept_spots shape id now ++ kept_spots shape id then) (reserved_spot place) ≡ false → option_map_or w now 0 ≡ option_map_or w then 0) [
+            | true ↦ λ alike _. ap (λ o. option_map_or w o 0) (kept_alike now then alike)
+            | false ↦ λ _ both.
+                let parts = not_touched-append (kept_spots shape id now) (kept_spots shape id then) (reserved_spot place) both in
+                nothing_there now parts.0 ∙ sym (nothing_there then parts.1)
+          ] refl misses
+
+  -- no label of the vertex is kept there
+  kept_elsewhere : (place : Place) (labels : List ℕ) → is_touched (map (λ label. reserved_spot (slot_of shape label id)) labels) (reserved_spot place) ≡ false
+      → count_by (λ label. same_place (slot_of shape label id) place) labels ≡ 0
+  kept_elsewhere place [] none = refl
+  kept_elsewhere place (l ∷ ls) none =
+      let parts = or_parts (is_same_spot (reserved_spot (slot_of shape l id)) (reserved_spot place)) (is_touched (map (λ label. reserved_spot (slot_of shape label id)) ls) (reserved_spot place)) none in
+      let here : cond (same_place (slot_of shape l id) place) 1 0 ≡ zero = ap (λ b. if b then suc zero else zero) parts.0 in
+      omega (arith, sum_by-cons (λ label. cond (same_place (slot_of shape label id) place) 1 0) l ls, here, kept_elsewhere place ls parts.1)
 
   vertex-stay : (spot : Spot) → is_touched (touched_by shape g (AtVertex id before)) spot ≡ false → IsSameAt shape g left spot
   vertex-stay (rank, Reserved block) none =
       let place : Place = record { rank = rank; block = block } in
       let first = or_parts (is_same_spot (vertex_spot shape id) (rank, Reserved block)) _ none in
-      let second = or_parts (is_same_spot (reserved_spot (bucket_of shape id)) (rank, Reserved block)) _ first.1 in
-      let labels = not_touched-append (label_spots shape id (vertex_at g id)) (label_spots shape id before) (rank, Reserved block) second.1 in
+      let bucket = is_same_spot (reserved_spot (bucket_of shape id)) (reserved_spot place) in
+      let labels : List ℕ → List Spot = λ ls. map (λ label. reserved_spot (slot_of shape label id)) ls in
       let slots : words_of_slot shape left place ≡ words_of_slot shape g place =
-      ap (λ n. 2 * n) (vertex-sum (λ entry. count_by (λ label. same_place (slot_of shape label entry.0) place) entry.1.labels) (kept_elsewhere place (vertex_at g id) labels.0) (kept_elsewhere place before labels.1)) in
+      ap (λ n. 2 * n) (moved-sum (λ entry. count_by (λ label. same_place (slot_of shape label entry.0) place) entry.1.labels) (λ ls. count_by (λ label. same_place (slot_of shape label id) place) ls) place (λ _. refl)
+      (λ ls misses. kept_elsewhere place ls (or_parts bucket (is_touched (labels ls) (reserved_spot place)) misses).1) first.1) in
       let buckets : words_of_bucket shape left place ≡ words_of_bucket shape g place =
-      ap (λ n. 2 * n) (vertex-sum (λ entry. cond (same_place (bucket_of shape entry.0) place) 1 0) (led_elsewhere place (vertex_at g id) second.0) (led_elsewhere place before second.0)) in
+      ap (λ n. 2 * n) (moved-sum (λ entry. cond (same_place (bucket_of shape entry.0) place) 1 0) (λ ls. cond (same_place (bucket_of shape id) place) 1 0) place (λ _. refl)
+      (λ ls misses. ap (λ b. if b then suc zero else zero) (or_parts bucket (is_touched (labels ls) (reserved_spot place)) misses).0) first.1) in
       let names : words_of_names left ≡ words_of_names g = λ i. words_of_names (record g { labels = vertex-labels i; types = vertex-types i }) in
       (refl, λ i. if block == 0 then (if rank == 0 then names i else 0) else (if nat_lt shape.buckets block then slots i else buckets i))
   vertex-stay (rank, OfVertex j) none =

@@ -1,5 +1,5 @@
 -- What the steps tell of the objects.
-use Rattle.std.proofs.Common.{◌≡◌, ℕ, Bool, true, false, cond, not, ◌&&◌, ◌||◌, List, [], ◌∷◌, ◌++◌, Option, Some, None, is_some, refl, sym, ap, subst, ◌∙◌}
+use Rattle.std.proofs.Common.{◌≡◌, ℕ, Bool, true, false, cond, not, ◌&&◌, ◌||◌, List, [], ◌∷◌, ◌++◌, if◌then◌else◌, Option, Some, None, is_some, refl, sym, ap, subst, ◌∙◌}
 use Rattle.std.specs.Prelude.{◌==◌}
 use Rattle.std.specs.List.{AllByRecursion, filter, list_all}
 use Rattle.std.specs.Option.{option_map_or}
@@ -9,10 +9,10 @@ use Rattle.std.specs.Cmp.{IsTotalOrder, nat_cmp_total, tied_itself}
 use Rattle.std.specs.FinMap.{nat_cmp-IsAntisymmetric}
 use Rattle.std.specs.FinMap.Entries.{put, find, find-put}
 use Rattle.std.proofs.lemmas.Bool.{or_parts, and_parts, and_from, eqb-true}
+use Rattle.std.proofs.lemmas.Slice.Eq.{bytes_eq-Decides}
 use Rattle.gdi_kinds.specs.declared.call.Call.{Call}
 use Rattle.gdi_kinds.specs.declared.call.Call.TheVariants as call
 use Rattle.rma_layout.specs.Shape.{Shape}
-use Rattle.rma_layout.specs.Placement.{bucket_of}
 use Rattle.graph_model.specs.Maps.{Map}
 use Rattle.graph_model.specs.Graph.{Graph, Vertex, Edge, EdgeKey, edge_cmp, vertex_at, is_vertex, edge_at, is_heavy, is_heavy_at, edges_from, edges_to}
 use Rattle.graph_model.specs.Calls.{graph_after_call}
@@ -25,10 +25,10 @@ use Rattle.edge_index.proofs.EdgeMaps.{is_named, is_at-named}
 use Rattle.graph_undo.specs.Undo.{Undo, Names, AtVertex, AtEdge, vertex_put_back, edge_put_back, rolled_back, noted_before, as_vertex, as_edge, as_edges, as_next_edge, IsInOrder}
 use Rattle.graph_undo.proofs.PutBack.{find-other, find-entries}
 use Rattle.graph_undo.proofs.CallsUndone.{steps_lead_back}
-use Rattle.touched_objects.specs.Touched.{Spot, vertex_spot, edge_spot, reserved_spot, label_spots, end_spots, touched_by, touched_on_the_way, is_same_spot, is_touched}
+use Rattle.touched_objects.specs.Touched.{Spot, vertex_spot, edge_spot, labels_there, kept_spots, are_kept_alike, moved_spots, end_spots, touched_by, touched_on_the_way, is_same_spot, is_touched}
 use Rattle.touched_objects.specs.Needed.{noted_along}
 use Rattle.touched_objects.specs.FromSteps.{touched_by_each, EachTouchesAll, had, StepsTellWhatStayed}
-use Rattle.touched_objects.proofs.OtherObjects.{not_touched-append}
+use Rattle.touched_objects.proofs.OtherObjects.{kept_alike, not_touched-append}
 
 -- ---- what is found where something was put back
 
@@ -88,22 +88,44 @@ module _ (shape : Shape) (g : Graph) (spot : Spot) where
       let parts = or_parts (is_same_spot x spot) (is_touched xs spot) one in
       ap (λ b. b || is_touched (xs ++ ys) spot) parts.0 ∙ misses-append xs ys parts.1 other
 
-  labels_on_the_way : (steps : List Undo) (id : ℕ) → Misses (touched_by_each shape steps g) → Misses (label_spots shape id (vertex_at g id)) → Misses (label_spots shape id (vertex_at (rolled_back steps g) id))
-  labels_on_the_way [] id none last = last
-  labels_on_the_way (Names labels types ∷ steps) id none last =
-      labels_on_the_way steps id (not_touched-append (touched_by shape g (Names labels types)) (touched_by_each shape steps g) spot none).1 last
-  labels_on_the_way (AtEdge key before ∷ steps) id none last =
-      let later = labels_on_the_way steps id (not_touched-append (touched_by shape g (AtEdge key before)) (touched_by_each shape steps g) spot none).1 last in
-      subst (λ vs. Misses (label_spots shape id (find nat_cmp id vs))) (sym (vertices-of-edge (rolled_back steps g) key before)) later
-  labels_on_the_way (AtVertex j before ∷ steps) id none last =
+  -- what is kept like the last, or elsewhere, is so among themselves
+  misses-between : (id : ℕ) (last one other : Option (List ℕ)) → Misses (moved_spots shape id last one) → Misses (moved_spots shape id last other) → Misses (moved_spots shape id one other)
+  misses-between id last one other first second =
+      elim (are_kept_alike last one) as (λ b. are_kept_alike last one ≡ b → Misses (if b then [] else kept_spots shape id last ++ kept_spots shape id one) → Misses (moved_spots shape id one other)) [
+        | true ↦ λ alike _. subst (λ o. Misses (moved_spots shape id o other)) (kept_alike last one alike) second
+        | false ↦ λ _ both.
+            let here = not_touched-append (kept_spots shape id last) (kept_spots shape id one) spot both in
+            elim (are_kept_alike last other) as (λ b. are_kept_alike last other ≡ b → Misses (if b then [] else kept_spots shape id last ++ kept_spots shape id other) → Misses (moved_spots shape id one other)) [
+              | true ↦ λ alike _. apart here.1 (subst (λ o. Misses (kept_spots shape id o)) (kept_alike last other alike) here.0)
+              | false ↦ λ _ there. apart here.1 (not_touched-append (kept_spots shape id last) (kept_spots shape id other) spot there).1
+            ] refl second
+      ] refl first
+    where
+      apart : Misses (kept_spots shape id one) → Misses (kept_spots shape id other) → Misses (moved_spots shape id one other)
+      apart a b =
+          elim (are_kept_alike one other) as (λ c. Misses (if c then [] else kept_spots shape id one ++ kept_spots shape id other)) [
+            | true ↦ refl
+            | false ↦ misses-append (kept_spots shape id one) (kept_spots shape id other) a b
+          ]
+
+  misses-itself : (id : ℕ) (o : Option (List ℕ)) → Misses (moved_spots shape id o o)
+  misses-itself id None = refl
+  misses-itself id (Some labels) = ap (λ b. is_touched (if b then [] else kept_spots shape id (Some labels) ++ kept_spots shape id (Some labels)) spot) ((bytes_eq-Decides labels labels).1 refl)
+
+  kept_on_the_way : (steps : List Undo) (id : ℕ) → Misses (touched_by_each shape steps g) → Misses (moved_spots shape id (labels_there (vertex_at g id)) (labels_there (vertex_at (rolled_back steps g) id)))
+  kept_on_the_way [] id none = misses-itself id (labels_there (vertex_at g id))
+  kept_on_the_way (Names labels types ∷ steps) id none =
+      kept_on_the_way steps id (not_touched-append (touched_by shape g (Names labels types)) (touched_by_each shape steps g) spot none).1
+  kept_on_the_way (AtEdge key before ∷ steps) id none =
+      let later = kept_on_the_way steps id (not_touched-append (touched_by shape g (AtEdge key before)) (touched_by_each shape steps g) spot none).1 in
+      subst (λ vs. Misses (moved_spots shape id (labels_there (vertex_at g id)) (labels_there (find nat_cmp id vs)))) (sym (vertices-of-edge (rolled_back steps g) key before)) later
+  kept_on_the_way (AtVertex j before ∷ steps) id none =
       let parts = not_touched-append (touched_by shape g (AtVertex j before)) (touched_by_each shape steps g) spot none in
-      let first = or_parts (is_same_spot (vertex_spot shape j) spot) _ parts.0 in
-      let second = or_parts (is_same_spot (reserved_spot (bucket_of shape j)) spot) _ first.1 in
-      let here = (not_touched-append (label_spots shape j (vertex_at g j)) (label_spots shape j before) spot second.1).1 in
-      elim (j == id) as (λ b. (j == id) ≡ b → Misses (label_spots shape id (vertex_at (vertex_put_back (rolled_back steps g) j before) id))) [
-        | true ↦ λ is. subst (λ k. Misses (label_spots shape k (vertex_at (vertex_put_back (rolled_back steps g) j before) k))) (eqb-true j id is)
-            (subst (λ o. Misses (label_spots shape j o)) (sym (vertex-back (rolled_back steps g) j before)) here)
-        | false ↦ λ other. subst (λ o. Misses (label_spots shape id o)) (sym (vertex-apart (rolled_back steps g) id j before other)) (labels_on_the_way steps id parts.1 last)
+      let here = (or_parts (is_same_spot (vertex_spot shape j) spot) _ parts.0).1 in
+      elim (j == id) as (λ b. (j == id) ≡ b → Misses (moved_spots shape id (labels_there (vertex_at g id)) (labels_there (vertex_at (vertex_put_back (rolled_back steps g) j before) id)))) [
+        | true ↦ λ is. subst (λ k. Misses (moved_spots shape k (labels_there (vertex_at g k)) (labels_there (vertex_at (vertex_put_back (rolled_back steps g) j before) k)))) (eqb-true j id is)
+            (subst (λ o. Misses (moved_spots shape j (labels_there (vertex_at g j)) (labels_there o))) (sym (vertex-back (rolled_back steps g) j before)) here)
+        | false ↦ λ other. subst (λ o. Misses (moved_spots shape id (labels_there (vertex_at g id)) (labels_there o))) (sym (vertex-apart (rolled_back steps g) id j before other)) (kept_on_the_way steps id parts.1)
       ] refl
 
   ends_on_the_way : (steps : List Undo) (key : EdgeKey) → Misses (touched_by_each shape steps g) → Misses (end_spots shape key (find edge_cmp key g.edges)) → Misses (end_spots shape key (find edge_cmp key (rolled_back steps g).edges))
@@ -127,11 +149,9 @@ module _ (shape : Shape) (g : Graph) (spot : Spot) where
   step_on_the_way steps (Names labels types) none here = here
   step_on_the_way steps (AtVertex id before) none here =
       let first = or_parts (is_same_spot (vertex_spot shape id) spot) _ here in
-      let second = or_parts (is_same_spot (reserved_spot (bucket_of shape id)) spot) _ first.1 in
-      let labels = not_touched-append (label_spots shape id (vertex_at g id)) (label_spots shape id before) spot second.1 in
-      misses-append (vertex_spot shape id ∷ reserved_spot (bucket_of shape id) ∷ []) (label_spots shape id (vertex_at (rolled_back steps g) id) ++ label_spots shape id before)
-      (ap (λ b. b || (is_same_spot (reserved_spot (bucket_of shape id)) spot || false)) first.0 ∙ ap (λ b. b || false) second.0)
-      (misses-append (label_spots shape id (vertex_at (rolled_back steps g) id)) (label_spots shape id before) (labels_on_the_way steps id none labels.0) labels.1)
+      let moved = moved_spots shape id (labels_there (vertex_at (rolled_back steps g) id)) (labels_there before) in
+      ap (λ b. b || is_touched moved spot) first.0
+      ∙ misses-between id (labels_there (vertex_at g id)) (labels_there (vertex_at (rolled_back steps g) id)) (labels_there before) (kept_on_the_way steps id none) first.1
   step_on_the_way steps (AtEdge key before) none here =
       let first = or_parts (is_same_spot (edge_spot shape key) spot) _ here in
       let ends = not_touched-append (end_spots shape key (edge_at g key.source key.ordinal)) (end_spots shape key before) spot first.1 in

@@ -1,6 +1,8 @@
 -- The objects that a step back may change: by the graph before the step and by what it puts back.
-use Rattle.std.specs.Prelude.{◌≡◌, ℕ, Bool, false, ◌&&◌, List, [], ◌∷◌, ◌++◌, map, Option, Some, None, ◌==◌}
+use Rattle.std.specs.Prelude.{◌≡◌, ℕ, Bool, true, false, ◌&&◌, List, [], ◌∷◌, ◌++◌, map, Option, Some, None, if◌then◌else◌, ◌==◌}
 use Rattle.std.specs.List.{list_any}
+use Rattle.std.specs.Option.{option_map}
+use Rattle.std.specs.Str.{bytes_eq}
 use Rattle.rma_layout.specs.Shape.{Shape}
 use Rattle.rma_layout.specs.Placement.{Place, home_of, bucket_of, slot_of}
 use Rattle.graph_model.specs.Graph.{Graph, Vertex, Edge, EdgeKey, vertex_at, edge_at}
@@ -21,10 +23,23 @@ edge_spot shape key = (home_of shape key.source, OfHeavyEdge key.source key.ordi
 abbrev pub reserved_spot : Place → Spot
 reserved_spot place = (place.rank, Reserved place.block)
 
--- where the labels of a vertex are kept
-abbrev pub label_spots : Shape → ℕ → Option Vertex → List Spot
-label_spots shape id None = []
-label_spots shape id (Some vertex) = map (λ label. reserved_spot (slot_of shape label id)) vertex.labels
+-- the labels of a vertex, if it is there
+abbrev pub labels_there : Option Vertex → Option (List ℕ)
+labels_there vertex = option_map (λ v. v.labels) vertex
+
+-- where a vertex with these labels is kept besides its own object: its bucket, and where its labels are
+abbrev pub kept_spots : Shape → ℕ → Option (List ℕ) → List Spot
+kept_spots shape id None = []
+kept_spots shape id (Some labels) = reserved_spot (bucket_of shape id) ∷ map (λ label. reserved_spot (slot_of shape label id)) labels
+
+abbrev pub are_kept_alike : Option (List ℕ) → Option (List ℕ) → Bool
+are_kept_alike None None = true
+are_kept_alike (Some labels) (Some others) = bytes_eq labels others
+are_kept_alike one other = false
+
+-- what a change of its labels touches: nothing where they stay
+abbrev pub moved_spots : Shape → ℕ → Option (List ℕ) → Option (List ℕ) → List Spot
+moved_spots shape id now before = if are_kept_alike now before then [] else kept_spots shape id now ++ kept_spots shape id before
 
 -- the vertices that have a record of an edge
 abbrev pub end_spots : Shape → EdgeKey → Option Edge → List Spot
@@ -35,7 +50,7 @@ end_spots shape key (Some edge) = vertex_spot shape key.source ∷ vertex_spot s
 abbrev pub touched_by : Shape → Graph → Undo → List Spot
 touched_by shape g (Names labels types) = (0, Reserved 0) ∷ []
 touched_by shape g (AtVertex id before) =
-    vertex_spot shape id ∷ reserved_spot (bucket_of shape id) ∷ (label_spots shape id (vertex_at g id) ++ label_spots shape id before)
+    vertex_spot shape id ∷ moved_spots shape id (labels_there (vertex_at g id)) (labels_there before)
 touched_by shape g (AtEdge key before) =
     edge_spot shape key ∷ (end_spots shape key (edge_at g key.source key.ordinal) ++ end_spots shape key before)
 

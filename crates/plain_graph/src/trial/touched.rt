@@ -1,12 +1,13 @@
-ghost use Rattle.std.specs.Prelude.{◌≡◌, ℕ, ◌∷◌, [], ◌||◌, not, true, false, OnOk, IfOk};
+ghost use Rattle.std.specs.Prelude.{◌≡◌, ℕ, ◌∷◌, [], ◌||◌, not, map, true, false, OnOk, IfOk};
 ghost use Rattle.std.specs.List.{list_all, IsDistinct};
 ghost use Rattle.std.specs.Map.{keys_of};
 ghost use Rattle.std.specs.Option.{option_copied, option_map_or};
+ghost use Rattle.rma_layout.specs.Placement.{slot_of};
 ghost use Rattle.rma_layout.specs.Shape.{Shape};
 ghost use Rattle.graph_model.specs.Graph.{EdgeKey, Graph, is_heavy};
 ghost use Rattle.graph_undo.specs.Undo.{Undo as Step, Names, AtVertex, AtEdge};
 ghost use Rattle.touched_objects.specs.FromSteps.{had, touched_by_each};
-ghost use Rattle.touched_objects.specs.Touched.{label_spots, end_spots, reserved_spot, touched_by};
+ghost use Rattle.touched_objects.specs.Touched.{are_kept_alike, end_spots, kept_spots, labels_there, moved_spots, reserved_spot, touched_by};
 ghost use Rattle.map_graph.specs.Named.{object_of};
 ghost use Rattle.map_graph.specs.Noted.{undo_of};
 ghost use Rattle.plain_graph.specs.Touching.{AreTold, is_same_name, spot_named};
@@ -16,7 +17,7 @@ use graph_parts::{HeldEdge, HeldVertex};
 use map_graph::{Journal, MapGraph, ObjectName, Undo};
 use rma_layout::{DPtr, Geometry};
 use std::alloc::Global;
-use std::collections::BTreeMap;
+use std::collections::{BTreeMap, BTreeSet};
 use std::marker::Model;
 
 /// Objects that steps touched, each once, and of each whether every step that tells of it had it.
@@ -91,7 +92,7 @@ impl Touched {
         Ok(())
     }
 
-    // A vertex, its bucket and where its labels are kept.
+    // A vertex, and where it is kept besides, where its labels are others than before.
     fn note_vertex(
         &mut self,
         geometry: &Geometry,
@@ -104,9 +105,43 @@ impl Touched {
             OnOk result (AreTold map.now.shape self.old self.new (touched_by map.now.shape map.now.graph step) (λ name. had (object_of name) step)) }
     {
         self.note(ObjectName::Vertex(id), before.is_some())?;
+        self.note_moved(geometry, id, map.vertex(id), before.as_ref())?;
+        Ok(())
+    }
+
+    // Where a vertex is kept besides its own object, now and before, unless its labels are the same.
+    fn note_moved(
+        &mut self,
+        geometry: &Geometry,
+        id: u64,
+        now: Option<&HeldVertex>,
+        before: Option<&HeldVertex>,
+    ) -> Result<(), NoMemory>
+        ensures { OnOk result (AreTold geometry.now self.old self.new
+            (moved_spots geometry.now id (labels_there (option_copied now.entry)) (labels_there (option_copied before.entry))) (λ name. true)) }
+    {
+        if are_kept_alike(now, before) {
+            return Ok(());
+        }
+        self.note_kept(geometry, id, now)?;
+        self.note_kept(geometry, id, before)?;
+        Ok(())
+    }
+
+    // The bucket of a vertex and where its labels are kept, if it is there.
+    fn note_kept(
+        &mut self,
+        geometry: &Geometry,
+        id: u64,
+        vertex: Option<&HeldVertex>,
+    ) -> Result<(), NoMemory>
+        ensures { OnOk result (AreTold geometry.now self.old self.new (kept_spots geometry.now id (labels_there (option_copied vertex.entry))) (λ name. true)) }
+    {
+        let Some(vertex) = vertex else {
+            return Ok(());
+        };
         self.note_block(geometry.bucket(id))?;
-        self.note_labels(geometry, id, map.vertex(id))?;
-        self.note_labels(geometry, id, before.as_ref())?;
+        self.note_labels(geometry, id, vertex.labels())?;
         Ok(())
     }
 
@@ -114,14 +149,11 @@ impl Touched {
         &mut self,
         geometry: &Geometry,
         id: u64,
-        vertex: Option<&HeldVertex>,
+        labels: &BTreeSet<u32, Global>,
     ) -> Result<(), NoMemory>
-        ensures { OnOk result (AreTold geometry.now self.old self.new (label_spots geometry.now id (option_copied vertex.entry)) (λ name. true)) }
+        ensures { OnOk result (AreTold geometry.now self.old self.new (map (λ label. reserved_spot (slot_of geometry.now label id)) labels.now.keys) (λ name. true)) }
     {
-        let Some(vertex) = vertex else {
-            return Ok(());
-        };
-        for label in vertex.labels() {
+        for label in labels {
             self.note_block(geometry.slot(*label, id))?;
         }
         Ok(())
@@ -181,5 +213,16 @@ fn is_heavy(edge: &Option<HeldEdge>) -> bool
     match edge {
         Some(edge) => edge.label_count() > 1 || edge.props().count() > 0,
         None => false,
+    }
+}
+
+// Whether a vertex is kept in the same places besides its own object.
+fn are_kept_alike(now: Option<&HeldVertex>, before: Option<&HeldVertex>) -> bool
+    ensures { result ≡ are_kept_alike (labels_there (option_copied now.entry)) (labels_there (option_copied before.entry)) }
+{
+    match (now, before) {
+        (Some(now), Some(before)) => now.labels() == before.labels(),
+        (None, None) => true,
+        _ => false,
     }
 }
