@@ -1,13 +1,15 @@
-use Rattle.std.proofs.Common.{rules, ◌∙◌, refl, sym, subst}
+use Rattle.std.proofs.Common.{rules, ◌∙◌, inl, inr, refl, sym, subst}
 use Rattle.rma_layout.specs.Ranges.{IsInRange}
 use Rattle.gdi_kinds.specs.declared.call.Call.TheVariants.{Add}
 use Rattle.graph_law.proofs.Doing.{refuses_no_rank}
-use Rattle.graph_vertices.specs.Finding.{FindsType}
+use Rattle.object_store.specs.Works.{Nowhere}
+use Rattle.object_store.proofs.Works.{fell_wider, went-fell}
+use Rattle.graph_vertices.specs.Finding.{FindsType, IsAbout}
 use Rattle.graph_values.specs.Spot.{FindsSpot}
 use Rattle.graph_values.proofs.Calling.{no_type_applied, no_vertex_applied}
 use Rattle.graph_values.proofs.Putting.{add_applied, add_asked, add_next, add_not_many, add_steps, add_unmade, add_wrong_kind}
 use Rattle.graph_values.proofs.Typing.{kind_is, knows_typed}
-use Rattle.graph_values.proofs.Ways.{fell_at_bucket, fell_on, went_both, went_on}
+use Rattle.graph_values.proofs.Ways.{here, went_both, went_names, went_on}
 use Rattle.graph_values.proofs.calls.vertex_add.vertex_add.Goals as goal
 
 pub returns-in-None-clause-applied : goal.returns-in-None-clause-applied
@@ -18,17 +20,17 @@ returns-in-None-clause-applied g c =
 
 pub returns-in_err-found-clause-works : goal.returns-in_err-found-clause-works
 returns-in_err-found-clause-works g c =
-    let did = fell_at_bucket c.args.id c.in_ok-named.ensures.works.went c.in_err-found.ensures.works.fell in
+    let did = went-fell (went_names {state = g.S.Store.state} {explains = g.S.Store.explains} c.args.id c.in_ok-named.ensures.works.went) (fell_wider {One = IsAbout c.args.id} {Homes = Nowhere} (λ place is. inr (inl is)) (λ rank never. never) c.in_err-found.ensures.works.fell) in
     search rules
 
 pub returns-in_err-found-clause-refused : goal.returns-in_err-found-clause-refused
 returns-in_err-found-clause-refused g c =
-    let did = refuses_no_rank {call = Add c.args.id c.args.prop.now c.args.value.now} (fell_at_bucket c.args.id c.in_ok-named.ensures.works.went c.in_err-found.ensures.works.fell).refused in
+    let did = refuses_no_rank {call = Add c.args.id c.args.prop.now c.args.value.now} (went-fell (went_names {state = g.S.Store.state} {explains = g.S.Store.explains} c.args.id c.in_ok-named.ensures.works.went) (fell_wider {One = IsAbout c.args.id} {Homes = Nowhere} (λ place is. inr (inl is)) (λ rank never. never) c.in_err-found.ensures.works.fell)).refused in
     search rules
 
 pub returns-in-None-found-clause-works : goal.returns-in-None-found-clause-works
 returns-in-None-found-clause-works g c =
-    record { went = went_both c.args.id c.in_ok-named.ensures.works.went c.in_ok-found.ensures.works.went; fell = tt }
+    record { went = went_both {state = g.S.Store.state} {explains = g.S.Store.explains} c.args.id c.in_ok-named.ensures.works.went c.in_ok-found.ensures.works.went; fell = tt }
 
 pub returns-in-None-found-clause-applied : goal.returns-in-None-found-clause-applied
 returns-in-None-found-clause-applied g c =
@@ -39,7 +41,7 @@ returns-in-None-found-clause-applied g c =
 
 pub returns-then-not-is_of_kind-clause-works : goal.returns-then-not-is_of_kind-clause-works
 returns-then-not-is_of_kind-clause-works g c =
-    record { went = went_both c.args.id c.in_ok-named.ensures.works.went c.in_ok-found.ensures.works.went; fell = tt }
+    record { went = went_both {state = g.S.Store.state} {explains = g.S.Store.explains} c.args.id c.in_ok-named.ensures.works.went c.in_ok-found.ensures.works.went; fell = tt }
 
 pub returns-then-not-is_of_kind-clause-applied : goal.returns-then-not-is_of_kind-clause-applied
 returns-then-not-is_of_kind-clause-applied g c =
@@ -50,7 +52,7 @@ returns-then-not-is_of_kind-clause-applied g c =
 
 pub returns-then-not-many-clause-works : goal.returns-then-not-many-clause-works
 returns-then-not-many-clause-works g c =
-    record { went = went_both c.args.id c.in_ok-named.ensures.works.went c.in_ok-found.ensures.works.went; fell = tt }
+    record { went = went_both {state = g.S.Store.state} {explains = g.S.Store.explains} c.args.id c.in_ok-named.ensures.works.went c.in_ok-found.ensures.works.went; fell = tt }
 
 pub returns-then-not-many-clause-applied : goal.returns-then-not-many-clause-applied
 returns-then-not-many-clause-applied g c =
@@ -90,20 +92,20 @@ add_value-requires-clause-marked g c =
 pub returns-in_err-reply-clause-works : goal.returns-in_err-reply-clause-works
 returns-in_err-reply-clause-works g c =
     let found = subst (FindsSpot c.args.id (g.S.Store.state c.find_type.new.store) (g.S.Store.state c.find_spot.new.store)) c.in-Some-found.is c.in_ok-found.ensures.found in
-    let did = fell_on c.args.id found.spot.place (went_both c.args.id c.in_ok-named.ensures.works.went c.in_ok-found.ensures.works.went) c.in_err-reply.ensures.works.fell in
+    let did = went-fell (went_both {state = g.S.Store.state} {explains = g.S.Store.explains} c.args.id c.in_ok-named.ensures.works.went c.in_ok-found.ensures.works.went) (fell_wider {One = IsAbout c.args.id} {Homes = Nowhere} (here c.args.id found.spot.place) (λ rank never. never) c.in_err-reply.ensures.works.fell) in
     search rules
 
 pub returns-in_err-reply-clause-refused : goal.returns-in_err-reply-clause-refused
 returns-in_err-reply-clause-refused g c =
     let found = subst (FindsSpot c.args.id (g.S.Store.state c.find_type.new.store) (g.S.Store.state c.find_spot.new.store)) c.in-Some-found.is c.in_ok-found.ensures.found in
-    let fell = fell_on c.args.id found.spot.place (went_both c.args.id c.in_ok-named.ensures.works.went c.in_ok-found.ensures.works.went) c.in_err-reply.ensures.works.fell in
+    let fell = went-fell (went_both {state = g.S.Store.state} {explains = g.S.Store.explains} c.args.id c.in_ok-named.ensures.works.went c.in_ok-found.ensures.works.went) (fell_wider {One = IsAbout c.args.id} {Homes = Nowhere} (here c.args.id found.spot.place) (λ rank never. never) c.in_err-reply.ensures.works.fell) in
     let did = refuses_no_rank {call = Add c.args.id c.args.prop.now c.args.value.now} fell.refused in
     search rules
 
 pub returns-clause-works : goal.returns-clause-works
 returns-clause-works g c =
     let found = subst (FindsSpot c.args.id (g.S.Store.state c.find_type.new.store) (g.S.Store.state c.find_spot.new.store)) c.in-Some-found.is c.in_ok-found.ensures.found in
-    record { went = went_on c.args.id found.spot.place (went_both c.args.id c.in_ok-named.ensures.works.went c.in_ok-found.ensures.works.went) c.in_ok-reply.ensures.works.went; fell = tt }
+    record { went = went_on {state = g.S.Store.state} {explains = g.S.Store.explains} c.args.id found.spot.place (went_both {state = g.S.Store.state} {explains = g.S.Store.explains} c.args.id c.in_ok-named.ensures.works.went c.in_ok-found.ensures.works.went) c.in_ok-reply.ensures.works.went; fell = tt }
 
 pub returns-clause-applied : goal.returns-clause-applied
 returns-clause-applied g c =
