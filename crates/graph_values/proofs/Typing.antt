@@ -66,9 +66,9 @@ type_there [] n type below marked of_kind = absurd (omega arith)
 type_there (one ∷ more) zero type below marked of_kind = (of_kind, marked)
 type_there (one ∷ more) (suc n) type below marked of_kind = type_there more n type (omega arith) marked of_kind
 
-mark_is : {type : PropType} (o : Option graph.PropType) → IsSomeAnd o (λ one. (one.kind ≡ type.kind) × (one.many ≡ type.many)) → option_map_or (λ (one : graph.PropType). one.many) o false ≡ type.many
-mark_is None never = absurd never
-mark_is (Some one) is = is.1
+mark_is : (type : PropType) (o : Option graph.PropType) → IsSomeAnd o (λ one. (one.kind ≡ type.kind) × (one.many ≡ type.many)) → option_map_or (λ (one : graph.PropType). one.many) o false ≡ type.many
+mark_is type None never = absurd never
+mark_is type (Some one) is = is.1
 
 module _ {shape : Shape} {contents : Contents} {g : Graph} (ranges : IsInRange shape) (is : Represents shape contents g) (id : ℕ) {object : Place} (leads : at is.vertices id ≡ Some object) where
   pub typed_here : (name : Name) (type : PropType) → IsTypeIn g name (Some type) → IsTyped type (held_here ranges is id leads)
@@ -86,17 +86,18 @@ values_put : (g : Graph) (n : ℕ) (values : List Value) (props : Props) → IsS
 values_put g n values props here are =
     (IsMap-put nat_cmp nat_cmp_total n values props are.0, All-put nat_cmp nat_cmp-IsAntisymmetric (λ entry. IsSomeAnd (item_at g.types entry.0) (λ type. AreValues type entry.1)) n values props here are.1)
 
-module _ {type : PropType} {held : HeldVertex} {value : Value} (typed : IsTyped type held) (fits : IsValue value) (of_kind : kind_of value ≡ type.kind) where
-  abbrev among : Graph
-  among = record empty_graph { types = held.types }
+-- a graph of some types alone
+abbrev among : List graph.PropType → Graph
+among types = record empty_graph { types = types }
 
+module _ {type : PropType} {held : HeldVertex} (value : Value) (typed : IsTyped type held) (fits : IsValue value) (of_kind : kind_of value ≡ type.kind) where
   one_value : (one : graph.PropType) → (one.kind ≡ type.kind) × (one.many ≡ type.many) → AreValues one (value ∷ [])
   one_value one is = record { each = ((fits, is.0 ∙ sym of_kind), tt); some = omega arith; single = λ _. refl }
 
   pub typed_with_one : IsTyped type (with_props (with_at held.vertex.props type.number (value ∷ [])) held)
   typed_with_one = record {
     few = typed.few;
-    props = values_put among type.number (value ∷ []) held.vertex.props (some_more _ (λ one. AreValues one (value ∷ [])) (item_at held.types type.number) one_value typed.here) typed.props;
+    props = values_put (among held.types) type.number (value ∷ []) held.vertex.props (some_more _ (λ one. AreValues one (value ∷ [])) (item_at held.types type.number) one_value typed.here) typed.props;
     here = typed.here;
   }
 
@@ -121,7 +122,7 @@ module _ {type : PropType} {held : HeldVertex} {value : Value} (typed : IsTyped 
     pub typed_with_another : IsTyped type (with_props (with_at held.vertex.props type.number (values_at held.vertex.props type.number ++ value ∷ [])) held)
     typed_with_another = record {
       few = typed.few;
-      props = values_put among type.number (values_at held.vertex.props type.number ++ value ∷ []) held.vertex.props (more_values (at held.vertex.props type.number) refl) typed.props;
+      props = values_put (among held.types) type.number (values_at held.vertex.props type.number ++ value ∷ []) held.vertex.props (more_values (at held.vertex.props type.number) refl) typed.props;
       here = typed.here;
     }
 
@@ -132,8 +133,8 @@ spelled_with held props is typed = record {
   next = is.next;
   labels = is.labels;
   labels_rise = is.labels_rise;
-  props = props_fit (record empty_graph { types = held.types }) props typed.few typed.props;
-  props_rise = props_rise (record empty_graph { types = held.types }) props typed.props;
+  props = props_fit (among held.types) props typed.few typed.props;
+  props_rise = props_rise (among held.types) props typed.props;
   edges = is.edges;
   edges_rise = is.edges_rise;
 }
@@ -142,19 +143,19 @@ spelled_with held props is typed = record {
 
 module _ (type : PropType) (value : Value) {held : HeldVertex} (typed : IsTyped type held) where
   pub one_is : with_one type value (holder_for held) ≡ map_made holder_for (valued type.number value held)
-  one_is = ap (λ (props : List HeldProp). Made (record (holder_for held) { props = props })) (set_held held.types type.number type.many value (mark_is (item_at held.types type.number) typed.here) held.vertex.props typed.props.0)
+  one_is = ap (λ (props : List HeldProp). Made (record (holder_for held) { props = props })) (set_held held.types type.number type.many value (mark_is type (item_at held.types type.number) typed.here) held.vertex.props typed.props.0)
 
   pub another_is : with_another type value (holder_for held) ≡ map_made holder_for (longer type.number value held)
-  another_is = ap (λ (props : List HeldProp). Made (record (holder_for held) { props = props })) (added_held held.types type.number type.many value (mark_is (item_at held.types type.number) typed.here) held.vertex.props typed.props.0)
+  another_is = ap (λ (props : List HeldProp). Made (record (holder_for held) { props = props })) (added_held held.types type.number type.many value (mark_is type (item_at held.types type.number) typed.here) held.vertex.props typed.props.0)
 
   module _ {holder : VertexHolder} (same : holder ≡ holder_for held) (is : IsVertexHolder holder) (fits : IsValue value) (of_kind : kind_of value ≡ type.kind) where
     pub one_spelled : IfMade IsVertexHolder (with_one type value holder)
     one_spelled = subst (IfMade IsVertexHolder) (sym (ap (with_one type value) same ∙ one_is))
-        (spelled_with held (with_at held.vertex.props type.number (value ∷ [])) (subst IsVertexHolder same is) (typed_with_one typed fits of_kind))
+        (spelled_with held (with_at held.vertex.props type.number (value ∷ [])) (subst IsVertexHolder same is) (typed_with_one value typed fits of_kind))
 
     pub another_spelled : type.many ≡ true → IfMade IsVertexHolder (with_another type value holder)
     another_spelled marked = subst (IfMade IsVertexHolder) (sym (ap (with_another type value) same ∙ another_is))
-        (spelled_with held (with_at held.vertex.props type.number (values_at held.vertex.props type.number ++ value ∷ [])) (subst IsVertexHolder same is) (typed_with_another typed fits of_kind marked))
+        (spelled_with held (with_at held.vertex.props type.number (values_at held.vertex.props type.number ++ value ∷ [])) (subst IsVertexHolder same is) (typed_with_another value typed fits of_kind marked))
 
 pub spelled_if_made : {F : Type 0} (made : Result (Change VertexHolder) F) (change : Change VertexHolder) → IfOk made (λ one. one ≡ change) → IfMade IsVertexHolder change → IfOk made (IfMade IsVertexHolder)
 spelled_if_made (Ok one) change is spelled = subst (IfMade IsVertexHolder) (sym is) spelled

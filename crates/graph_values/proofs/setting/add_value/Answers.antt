@@ -33,4 +33,4 @@ returns-clause-added g c =
     let spelled = spelled_if_made c.with_another-made.result (with_another c.args.typed c.args.value.now c.in_ok-holder.holder) c.with_another-made.ensures
     (another_spelled c.args.typed c.args.value.now part.1 part.2 c.in_ok-holder.ensures.found.is c.requires.value c.requires.kind c.requires.marked) in
     changes_ok holder_for (IsTyped type) vertex_same c.in_ok-holder.ensures.found (longer type.number value) (λ one. one ≡ with_another type value c.in_ok-holder.holder) c.settle.result c.with_another-made.result (g.S.Store.state c.settle.new.store)
-    (λ one is held fits same. (is ∙ (ap (with_another type value) same ∙ another_is type value fits), typed_with_another fits c.requires.value c.requires.kind c.requires.marked)) c.requires.vertex c.with_another-made.ensures spelled c.settle.ensures.settled
+    (λ one is held fits same. (is ∙ (ap (with_another type value) same ∙ another_is type value fits), typed_with_another value fits c.requires.value c.requires.kind c.requires.marked)) c.requires.vertex c.with_another-made.ensures spelled c.settle.ensures.settled

@@ -33,4 +33,4 @@ returns-clause-set g c =
     let spelled = spelled_if_made c.with_one-made.result (with_one c.args.typed c.args.value.now c.in_ok-holder.holder) c.with_one-made.ensures
     (one_spelled c.args.typed c.args.value.now part.1 part.2 c.in_ok-holder.ensures.found.is c.requires.value c.requires.kind) in
     changes_ok holder_for (IsTyped type) vertex_same c.in_ok-holder.ensures.found (valued type.number value) (λ one. one ≡ with_one type value c.in_ok-holder.holder) c.settle.result c.with_one-made.result (g.S.Store.state c.settle.new.store)
-    (λ one is held fits same. (is ∙ (ap (with_one type value) same ∙ one_is type value fits), typed_with_one fits c.requires.value c.requires.kind)) c.requires.vertex c.with_one-made.ensures spelled c.settle.ensures.settled
+    (λ one is held fits same. (is ∙ (ap (with_one type value) same ∙ one_is type value fits), typed_with_one value fits c.requires.value c.requires.kind)) c.requires.vertex c.with_one-made.ensures spelled c.settle.ensures.settled

@@ -12,6 +12,9 @@ use Rattle.graph_values.proofs.Typing.{kind_is, knows_typed}
 use Rattle.graph_values.proofs.Ways.{here, went_both, went_names, went_on}
 use Rattle.graph_values.proofs.calls.vertex_add.vertex_add.Goals as goal
 
+pub returns-in_err-named-clause-refused : goal.returns-in_err-named-clause-refused
+returns-in_err-named-clause-refused g c = let did = refuses_no_rank {call = Add c.args.id c.args.prop.now c.args.value.now} c.in_err-named.ensures.works.fell.refused in search rules
+
 pub returns-in-None-clause-applied : goal.returns-in-None-clause-applied
 returns-in-None-clause-applied g c =
     let ranges = subst IsInRange c.geometry-geometry.ensures c.keeps_ranges.ensures in
