@@ -1,10 +1,9 @@
 ghost use Rattle.std.specs.Prelude.{◌≡◌, [], ◌∷◌, IfOk};
 ghost use Rattle.std.specs.List.{AllByRecursion};
 ghost use Rattle.rma_layout.specs.Placement.{IsBlock};
-ghost use Rattle.object_words.specs.Contents.{Contents};
 ghost use Rattle.holder_codec.specs.Represents.{AreApart};
 ghost use Rattle.held_objects.specs.Held.{IsSpelled};
-ghost use Rattle.whole_reads.specs.Looking.{FindsEach, IsLooking, Looks, MayBe};
+ghost use Rattle.whole_reads.specs.Looking.{FindsEach, IsLooking, IsUnmet, Looks, Tells};
 
 use fabric::{Rank, Window};
 use gdi_kinds::{ListOf, NoMemory};
@@ -14,10 +13,10 @@ use object_moves::load;
 use rma_layout::DPtr;
 use std::alloc::Global;
 
-/// What an object holds, read by a rank that looks at the whole window.
+/// What an object holds, read by a rank that looks at the whole window and hasn't read it yet.
 ///
-/// What is known of the other objects has to tell that it holds one. After a refusal, which comes for want of memory
-/// alone, the rank looks on.
+/// What the rank has read has to tell that the object holds one. It is refused for want of memory alone, and the rank
+/// looks on then.
 pub fn read_holder<L: KeepsGraph, H: Holder>(
     alloc: Global,
     window: &Window<L>,
@@ -27,8 +26,8 @@ pub fn read_holder<L: KeepsGraph, H: Holder>(
     requires window { rank.old.window ≡ window.now }
     requires looking { IsLooking window.now.shape rank.old.view }
     requires object { IsBlock window.now.shape at }
-    requires spelled { (store : Contents) → MayBe window.now.shape (at ∷ []) rank.old.view store →
-        IsSpelled H.IsHolder H.words_of at window.now.shape store }
+    requires unmet { IsUnmet rank.old.view at }
+    requires spelled { Tells window.now.shape rank.old.view (λ store _ _. IsSpelled H.IsHolder H.words_of at window.now.shape store) }
     ensures window { rank.new.window ≡ rank.old.window }
     ensures spares { rank.new.spares ≡ rank.old.spares }
     ensures looking { IsLooking window.now.shape rank.new.view }
@@ -43,10 +42,10 @@ pub fn read_holder<L: KeepsGraph, H: Holder>(
     }
 }
 
-/// What each of some objects holds, in their order, none of which stands twice.
+/// What each of some objects holds, in their order. None of them stands twice, and none has been read yet.
 ///
-/// What is known of all other objects has to tell that each of them holds one. After a refusal, which comes for want of
-/// memory alone, the rank looks on.
+/// What the rank has read has to tell that each of them holds one. It is refused for want of memory alone, and the rank
+/// looks on then.
 pub fn read_holders<L: KeepsGraph, H: Holder>(
     alloc: Global,
     window: &Window<L>,
@@ -57,8 +56,9 @@ pub fn read_holders<L: KeepsGraph, H: Holder>(
     requires looking { IsLooking window.now.shape rank.old.view }
     requires objects { AllByRecursion (IsBlock window.now.shape) places.now }
     requires apart { AreApart places.now }
-    requires spelled { (store : Contents) → MayBe window.now.shape places.now rank.old.view store →
-        AllByRecursion (λ at. IsSpelled H.IsHolder H.words_of at window.now.shape store) places.now }
+    requires unmet { AllByRecursion (IsUnmet rank.old.view) places.now }
+    requires spelled { Tells window.now.shape rank.old.view (λ store _ _.
+        AllByRecursion (λ at. IsSpelled H.IsHolder H.words_of at window.now.shape store) places.now) }
     ensures window { rank.new.window ≡ rank.old.window }
     ensures spares { rank.new.spares ≡ rank.old.spares }
     ensures looking { IsLooking window.now.shape rank.new.view }
