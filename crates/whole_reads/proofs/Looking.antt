@@ -1,5 +1,5 @@
 -- What a rank knows that looks at the whole window, from read to read.
-use Rattle.std.proofs.Common.{◌≡◌, ◌≢◌, ℕ, List, [], ◌∷◌, ◌++◌, map, cond, refl, sym, ap, ◌∙◌, subst, Option, Some, None, IsSome}
+use Rattle.std.proofs.Common.{◌≡◌, ◌≢◌, ℕ, ◌<◌, List, [], ◌∷◌, ◌++◌, length, take, get_or, cond, refl, sym, ap, ◌∙◌, subst, Option, Some, None, IsSome, ◌⊎◌, inl, inr}
 use Rattle.std.specs.List.{AllByRecursion}
 use Rattle.rma_layout.specs.Shape.{Shape}
 use Rattle.rma_layout.specs.Placement.{Place}
@@ -7,17 +7,26 @@ use Rattle.object_words.specs.Contents.{Contents}
 use Rattle.object_words.specs.Entries.{Entry, store_after}
 use Rattle.graph_model.specs.Graph.{Graph}
 use Rattle.holder_codec.specs.Represents.{Represents}
-use Rattle.window_rule.specs.View.{View, Known, AsWhole}
+use Rattle.rma_layout.specs.declared.word.Word.{Word}
+use Rattle.held_objects.specs.Held.{IsSpelled}
+use Rattle.window_rule.specs.ContentsHold.{AreHeld, Lasts, holdings_of}
+use Rattle.window_rule.specs.Locks.{hold_of}
+use Rattle.window_rule.specs.View.{View, Known, Outside, AsWhole}
 use Rattle.window_rule.specs.Known.{known_of, without_known}
 use Rattle.window_rule.specs.Lengths.{measured}
 use Rattle.window_rule.specs.Trails.{Follows}
-use Rattle.window_rule.specs.Truths.{IsTrueView}
+use Rattle.window_rule.specs.Truths.{IsTrueView, WasLawful}
 use Rattle.window_rule.proofs.LockLemmas.{same_place-false}
 use Rattle.window_rule.proofs.Readings.{reading-stays}
 use Rattle.window_rule.proofs.Trails.{follows_trans}
 use Rattle.object_moves.specs.Loads.{content_in}
+use Rattle.object_moves.proofs.Chains.{measured_is}
 use Rattle.whole_reads.specs.Looking.{IsNoneOf, IsMet, IsUnmet, words_met, AgreesWith, Tells, IsLooking, Looks, FindsEach}
-use Rattle.whole_reads.proofs.Lists.{All-one, All-two, All-push, map-push, same_map}
+use Rattle.whole_reads.proofs.Lists.{All-at, All-take, All-one, All-two, All-push, map-push, same_map}
+
+none-append : (ps qs : List Place) (object : Place) → IsNoneOf (ps ++ qs) object → IsNoneOf ps object × IsNoneOf qs object
+none-append [] qs object none = (tt, none)
+none-append (p ∷ ps) qs object none = let rest = none-append ps qs object none.1 in ((none.0, rest.0), rest.1)
 
 module _ {N : Type 0} where
   -- at a store of a graph, by what is true of every view
@@ -30,6 +39,22 @@ module _ {N : Type 0} where
     represents = found.1;
     agrees = record { each = λ object known is. (truths.knows object known is).1 };
   }
+
+  -- a rank at rest knows nothing
+  pub unmet_at_rest : (fits : Shape → Entry N → Type 0) (shape : Shape) (word : Word) (found : ℕ) (view : View N) → WasLawful fits shape word found view
+      → ((object : Place) → hold_of view.locks object ≡ None) → view.gate ≡ Outside → (object : Place) → IsUnmet view object
+  unmet_at_rest fits shape word found view was unlocked out object = cases (known_of view.known object) refl
+    where
+      held : AreHeld was.lawful.ground.objects (holdings_of view)
+      held = was.lawful.holds.holdings was.id view was.there
+
+      never : (Lasts (hold_of view.locks object) ⊎ (view.gate ≡ AsWhole)) → ⊥
+      never (inl lasting) = subst Lasts (unlocked object) lasting
+      never (inr whole) = let no : Outside ≡ AsWhole = sym out ∙ whole in cc no
+
+      cases : (o : Option Known) → known_of view.known object ≡ o → o ≡ None
+      cases None is = refl
+      cases (Some known) is = absurd (never (held.read object known is).2)
 
   -- ---- a load
 
@@ -47,11 +72,15 @@ module _ {N : Type 0} where
       follows = follows;
     }
 
-    pub whole_by_load : before.gate ≡ AsWhole → after.gate ≡ AsWhole
+    whole_by_load : before.gate ≡ AsWhole → after.gate ≡ AsWhole
     whole_by_load whole = ap (λ (v : View N). v.gate) is ∙ whole
 
-    pub clean_by_load : before.dirty ≡ [] → after.dirty ≡ []
+    clean_by_load : before.dirty ≡ [] → after.dirty ≡ []
     clean_by_load clean = ap (λ (v : View N). v.dirty) is ∙ clean
+
+    pub looking_by_load : (fits : Shape → Entry N → Type 0) (shape : Shape) → IsTrueView fits shape after → IsLooking shape before
+        → ((g : Graph) × Represents shape (store_after after.seen) g) → IsLooking shape after
+    looking_by_load fits shape truths was found = looking fits shape after truths (whole_by_load was.whole) (clean_by_load was.clean) found
 
   -- ---- from view to view
 
@@ -81,12 +110,27 @@ module _ {N : Type 0} where
       are = finds.are;
     }
 
+  -- the object holds what it had to by what was known before
+  pub holds_one : {H : Type 0} {IsHolder : H → Type 0} {words_of : H → List ℕ} (shape : Shape) (object : Place) (known : Known) (history : List (Entry N)) (before after : View N)
+      → after ≡ measured object known history before → Follows before after → IsLooking shape after → IsUnmet before object
+      → Tells shape before (λ store _ _. IsSpelled IsHolder words_of object shape store) → (words : List ℕ) → words ≡ known.content
+      → ((held : H) → IsHolder held → words ≡ words_of held → ⊥) → ⊥
+  holds_one shape object known history before after is follows now unmet tells words read none =
+      let store = store_after after.seen in
+      let spelled = tells store now.graph now.represents (agrees_before (looks_by_load object known history before after is follows) (unmet, tt) store now.agrees) in
+      none spelled.held spelled.is (read ∙ (sym (now.agrees.each object known (measured_is object known history before after is)) ∙ spelled.words))
+
+  pub looks_within : (places : List Place) (k : ℕ) (p : Place) (before after : View N) → k < length places → p ≡ get_or places k p
+      → Looks (take k places ++ p ∷ []) before after → Looks places before after
+  looks_within places k p before after within is looks = record {
+    only = looks.only;
+    others = λ object none. looks.others object
+        (All-push (λ q. q ≢ object) (take k places) p (All-take (λ q. q ≢ object) k places none) (All-at (λ q. q ≢ object) places k p within is none));
+    follows = looks.follows;
+  }
+
   pub looks_none : (view : View N) → Follows view view → Looks [] view view
   looks_none view follows = record { only = refl; others = λ object _. refl; follows = follows }
-
-  none-append : (ps qs : List Place) (object : Place) → IsNoneOf (ps ++ qs) object → IsNoneOf ps object × IsNoneOf qs object
-  none-append [] qs object none = (tt, none)
-  none-append (p ∷ ps) qs object none = let rest = none-append ps qs object none.1 in ((none.0, rest.0), rest.1)
 
   pub looks_more : (ps qs : List Place) (one two three : View N) → Looks ps one two → Looks qs two three → Looks (ps ++ qs) one three
   looks_more ps qs one two three first next = record {

@@ -10,7 +10,8 @@ use Rattle.graph_model.specs.Graph.{Graph}
 use Rattle.holder_codec.specs.Represents.{Represents}
 use Rattle.lock_words.specs.declared.want.Want.TheVariants.{Whole}
 use Rattle.lock_words.specs.Conflicts.{Conflicts}
-use Rattle.window_rule.specs.View.{View, Known, AsWhole, OfGate}
+use Rattle.window_rule.specs.View.{View, Known, Outside, AsWhole, OfGate}
+use Rattle.window_rule.specs.Locks.{hold_of}
 use Rattle.window_rule.specs.Known.{known_of}
 use Rattle.window_rule.specs.Trails.{Follows}
 use Rattle.object_moves.specs.Loads.{content_in}
@@ -61,6 +62,12 @@ module _ {N : Type 0} where
     pub met : AllByRecursion (IsMet view) places
     pub words : map words_of held ≡ map (words_met view) places
     pub are : AllByRecursion IsHolder held
+
+  -- the rank is in no transaction: it has no lock, no place in the gate and nothing detached
+  pub record IsIdle (view : View N) : Type 0 where
+    pub locks : (object : Place) → hold_of view.locks object ≡ None
+    pub gate : view.gate ≡ Outside
+    pub clean : view.dirty ≡ []
 
   -- the rank has entered the gate, and seen as much of the history or more
   pub record Enters (before after : View N) : Type 0 where

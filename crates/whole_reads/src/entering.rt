@@ -1,9 +1,8 @@
 ghost use Rattle.std.specs.Prelude.{◌≡◌, IsOk, MatchResult, OnOk};
 ghost use Rattle.rma_layout.specs.Placement.{Place};
 ghost use Rattle.window_rule.specs.RightsHold.{IsAlone};
-ghost use Rattle.window_rule.specs.Pairs.{IsAtRest};
 ghost use Rattle.window_rule.specs.Trails.{Follows};
-ghost use Rattle.whole_reads.specs.Looking.{Enters, IsBarred, IsLooking, IsUnmet};
+ghost use Rattle.whole_reads.specs.Looking.{Enters, IsBarred, IsIdle, IsLooking, IsUnmet};
 
 use fabric::{Rank, Window};
 use holder_codec::KeepsGraph;
@@ -14,7 +13,7 @@ use holder_codec::KeepsGraph;
 /// then the gate word that it found, and the rank has no place.
 pub fn enter<L: KeepsGraph>(window: &Window<L>, rank: &mut Rank<L>) -> Result<(), u64>
     requires window { rank.old.window ≡ window.now }
-    requires rest { IsAtRest rank.old.view }
+    requires rest { IsIdle rank.old.view }
     ensures window { rank.new.window ≡ rank.old.window }
     ensures spares { rank.new.spares ≡ rank.old.spares }
     ensures view { MatchResult result (λ _. Enters rank.old.view rank.new.view) (λ word. IsBarred word rank.old.view rank.new.view) }
