@@ -20,7 +20,7 @@ use Rattle.object_store.specs.State.{StoreState}
 use Rattle.object_store.specs.Works.{Reaches}
 use Rattle.id_hash.specs.Buckets.{Finds, IsBucketFor, Leads}
 use Rattle.graph_law.specs.Calls.{AppliesCall, Stands}
-use Rattle.graph_law.proofs.Looking.{bucket_reached, is_led, looks_applied}
+use Rattle.graph_law.proofs.Looking.{bucket_reached, looks_applied}
 
 pub knows_leads : {N : Type 0} {state : StoreState N} → IsInRange state.shape → Knows Stands state → Knows Leads state
 knows_leads {N} {state} ranges knows = record {
@@ -29,6 +29,11 @@ knows_leads {N} {state} ranges knows = record {
       record { vertices = stands.represents.vertices; led = represents_leads state.shape (overlay store state.writes) stands.graph stands.represents ranges };
   ordered = knows.ordered;
 }
+
+-- the objects of vertices are those of the vertices that are there
+pub is_led : {shape : Shape} {contents : Contents} {g : Graph} (is : Represents shape contents g) (id : ℕ) → is_some (at is.vertices id) ≡ is_vertex g id
+is_led {shape} {contents} {g} is id =
+    is_some-find nat_cmp id is.vertices ∙ ap (list_any (λ q. is_eq (nat_cmp id q))) is.represented.vertex_keys ∙ sym (is_some-find nat_cmp id g.vertices)
 
 module _ {N : Type 0} {old new : StoreState N} {Makes : ℕ → Type 0} {id : ℕ} {found : Option Place} (ranges : IsInRange old.shape) (reaches : Reaches (IsBucketFor id old.shape) Makes old new)
     (finds : Finds id old new found) where

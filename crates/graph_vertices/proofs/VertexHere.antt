@@ -32,8 +32,11 @@ use Rattle.graph_law.specs.declared.law.Noted.{Noted}
 use Rattle.graph_law.specs.Calls.{Stands}
 use Rattle.graph_law.specs.Law.{Fits}
 use Rattle.graph_law.proofs.Looking.{may_be_here}
-pub use Rattle.graph_law.proofs.Looking.{agrees_before}
 use Rattle.graph_vertices.specs.Finding.{FindsNames, FindsVertex}
+
+-- what was read later agrees with what was read before
+pub agrees_before : {N : Type 0} {old new : StoreState N} → StaysBegun old new → (store : Contents) → Agrees new.reads store → Agrees old.reads store
+agrees_before stays store agrees = λ object words is. agrees object words (stays.reads object words is)
 
 -- ---- a vertex where an identifier leads
 
