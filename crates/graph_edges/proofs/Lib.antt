@@ -3,6 +3,6 @@ pub mod EdgeHere
 pub mod Showing
 pub mod Getting
 pub mod RecordHere
-pub mod Passing
-pub mod Listed
-pub mod Listing
+pub mod EdgesPassing
+pub mod LinesShown
+pub mod EdgesListed

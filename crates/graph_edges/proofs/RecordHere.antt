@@ -11,7 +11,7 @@ use Rattle.rma_layout.specs.Ranges.{IsInRange}
 use Rattle.rma_layout.specs.Placement.{Place, home_of}
 use Rattle.object_words.specs.Contents.{Contents, content_of}
 use Rattle.graph_model.specs.Graph.{Edge, EdgeKey, Graph, Props, edge_at, edge_cmp, edges_from, edges_to, is_heavy, is_heavy_at, vertex_at}
-use Rattle.graph_model.proofs.Entries.{All-filter, All-find, edge_cmp_same}
+use Rattle.graph_model.proofs.Entries.{All-filter, All-find, edge_cmp_same, edge_cmp_total}
 use Rattle.holder_codec.specs.declared.edge_form.EdgeForm.{EdgeForm}
 use Rattle.holder_codec.specs.declared.edge_form.EdgeForm.TheVariants.{Plain, Labelled, Heavy}
 use Rattle.holder_codec.specs.declared.edge_record.EdgeRecord.{EdgeRecord}
@@ -24,7 +24,6 @@ use Rattle.edge_ops.specs.OfGraph.{edge_of_graph, vertex_of_graph}
 use Rattle.edge_ops.specs.Opening.{IsOwnSpelled, MatchForm, OwnIsBlock}
 use Rattle.edge_ops.proofs.EdgesFound.{heavy_is}
 use Rattle.edge_ops.proofs.EdgesOfGraph.{holds_own, is_block}
-use Rattle.object_view.proofs.Objects.{edge_cmp_total}
 use Rattle.graph_edges.specs.Finding.{key_of}
 use Rattle.graph_edges.specs.Listing.{IsOfEdge, key_at}
 
@@ -52,7 +51,7 @@ light_told (l ∷ m ∷ ls) (p ∷ ps) Other few = absurd (grind (arith, nat_tes
 
 -- the edge of a record, with its form
 abbrev pub EdgeAt : Graph → EdgeObjects → ℕ → EdgeRecord → Type 0
-EdgeAt g edges id record = (e : Edge) × (find edge_cmp (key_at id record) g.edges ≡ Some e) × (record.form ≡ form_of_edge edges (key_at id record) e)
+EdgeAt g edges id end = (e : Edge) × (find edge_cmp (key_at id end) g.edges ≡ Some e) × (end.form ≡ form_of_edge edges (key_at id end) e)
 
 module _ {shape : Shape} {contents : Contents} {g : Graph} (ranges : IsInRange shape) (is : Represents shape contents g) (id : ℕ) where
   entries_there : AllByRecursion (λ entry. edge_at g entry.0.source entry.0.ordinal ≡ Some entry.1) g.edges
@@ -73,50 +72,47 @@ module _ {shape : Shape} {contents : Contents} {g : Graph} (ranges : IsInRange s
       (All-over_map (EdgeAt g is.edges id) (λ entry. record_at_source is.vertices is.edges entry.0 entry.1) (edges_from g id) from_at)
       (All-over_map (EdgeAt g is.edges id) (λ entry. record_at_target is.vertices is.edges entry.0 entry.1) (edges_to g id) to_at)
 
-  module _ {record' : EdgeRecord} (here : EdgeAt g is.edges id record') where
-    source : ℕ
-    source = (key_at id record').source
+  module _ {end : EdgeRecord} (here : EdgeAt g is.edges id end) where
+    stands : EdgeStands shape contents g is.edges (key_at id end, here.0)
+    stands = All-find edge_cmp edge_cmp_same (EdgeStands shape contents g is.edges) (key_at id end) here.0 g.edges (each_stands shape contents g is ranges) here.1
 
-    stands : EdgeStands shape contents g is.edges (key_at id record', here.0)
-    stands = All-find edge_cmp edge_cmp_same (EdgeStands shape contents g is.edges) (key_at id record') here.0 g.edges (each_stands shape contents g is ranges) here.1
+    own_is : (place : Place) → end.form ≡ Heavy place → (is_heavy here.0 ≡ true) × (edge_object_of is.edges (key_at id end) ≡ place)
+    own_is place form = heavy_is (edge_of_graph g is.vertices is.edges (key_at id end).source end.ordinal here.0) place (sym here.2 ∙ form)
 
-    own_is : (place : Place) → record'.form ≡ Heavy place → (is_heavy here.0 ≡ true) × (edge_object_of is.edges (key_at id record') ≡ place)
-    own_is place form = heavy_is (edge_of_graph g is.vertices is.edges (key_at id record').source record'.ordinal here.0) place (sym here.2 ∙ form)
-
-    pub heavy_at : (place : Place) → record'.form ≡ Heavy place → (is_heavy_at g (key_at id record').source record'.ordinal ≡ true) × (edge_object_of is.edges (key_at id record') ≡ place)
+    pub heavy_at : (place : Place) → end.form ≡ Heavy place → (is_heavy_at g (key_at id end).source end.ordinal ≡ true) × (edge_object_of is.edges (key_at id end) ≡ place)
     heavy_at place form = (ap (λ o. option_map_or is_heavy o false) here.1 ∙ (own_is place form).0, (own_is place form).1)
 
     own_held : is_heavy here.0 ≡ true
-        → HoldsOwn shape (object_of is.vertices (key_at id record').source) record'.ordinal contents (vertex_of_graph g is.vertices is.edges (key_at id record').source) (edge_of_graph g is.vertices is.edges (key_at id record').source record'.ordinal here.0)
+        → HoldsOwn shape (object_of is.vertices (key_at id end).source) end.ordinal contents (vertex_of_graph g is.vertices is.edges (key_at id end).source) (edge_of_graph g is.vertices is.edges (key_at id end).source end.ordinal here.0)
     own_held heavy =
-        let from = some_and _ (vertex_at g (key_at id record').source) stands.fits.source in
-        holds_own shape contents g is ranges (key_at id record').source record'.ordinal from.0 from.1 here.0 here.1 heavy
+        let from = some_and _ (vertex_at g (key_at id end).source) stands.fits.source in
+        holds_own shape contents g is ranges (key_at id end).source end.ordinal from.0 from.1 here.0 here.1 heavy
 
-    pub own_spelled : IsOwnSpelled record'.form shape contents
-    own_spelled = cases record'.form refl
+    pub own_spelled : IsOwnSpelled end.form shape contents
+    own_spelled = cases end.form refl
       where
-        cases : (form : EdgeForm) → record'.form ≡ form → IsOwnSpelled form shape contents
+        cases : (form : EdgeForm) → end.form ≡ form → IsOwnSpelled form shape contents
         cases Plain _ = tt
         cases (Labelled label) _ = tt
         cases (Heavy at) form =
             let own = own_is at form in
             let spelled = (own_held own.0).own in
-            record { held = edge_holder_for g.types (key_at id record').source record'.ordinal here.0; is = spelled.holder; words = ap (content_of contents) (sym own.1) ∙ spelled.words }
+            record { held = edge_holder_for g.types (key_at id end).source end.ordinal here.0; is = spelled.holder; words = ap (content_of contents) (sym own.1) ∙ spelled.words }
 
-    pub own_place : (place : Place) → record'.form ≡ Heavy place → IsUnreserved shape (home_of shape (key_at id record').source) place
+    pub own_place : (place : Place) → end.form ≡ Heavy place → IsUnreserved shape (home_of shape (key_at id end).source) place
     own_place place form =
         let own = own_is place form in
-        subst (IsUnreserved shape (home_of shape (key_at id record').source)) own.1 (stands.held own.0).place
+        subst (IsUnreserved shape (home_of shape (key_at id end).source)) own.1 (stands.held own.0).place
 
-    pub own_block : OwnIsBlock record'.form shape
-    own_block = cases record'.form refl
+    pub own_block : OwnIsBlock end.form shape
+    own_block = cases end.form refl
       where
-        cases : (form : EdgeForm) → record'.form ≡ form → OwnIsBlock form shape
+        cases : (form : EdgeForm) → end.form ≡ form → OwnIsBlock form shape
         cases Plain _ = tt
         cases (Labelled label) _ = tt
-        cases (Heavy at) form = is_block shape contents g is ranges (key_at id record').source at (own_place at form)
+        cases (Heavy at) form = is_block shape contents g is ranges (key_at id end).source at (own_place at form)
 
-    pub of_edge : IsOfEdge id record' g contents
+    pub of_edge : IsOfEdge id end g contents
     of_edge = record {
       edge = here.0;
       there = here.1;
@@ -124,8 +120,8 @@ module _ {shape : Shape} {contents : Contents} {g : Graph} (ranges : IsInRange s
     }
       where
         abbrev Own : Place → Type 0
-        Own own = IsEdgeHolder (edge_holder_for g.types (key_at id record').source record'.ordinal here.0) × (content_of contents own ≡ edge_object_words (edge_holder_for g.types (key_at id record').source record'.ordinal here.0))
+        Own own = IsEdgeHolder (edge_holder_for g.types (key_at id end).source end.ordinal here.0) × (content_of contents own ≡ edge_object_words (edge_holder_for g.types (key_at id end).source end.ordinal here.0))
 
-        cases : (heavy : _) → is_heavy here.0 ≡ heavy → MatchForm (cond heavy (Heavy (edge_object_of is.edges (key_at id record'))) (light_form here.0.labels)) (λ labels. (here.0.labels ≡ labels) × (here.0.props ≡ [])) Own
+        cases : (heavy : _) → is_heavy here.0 ≡ heavy → MatchForm (cond heavy (Heavy (edge_object_of is.edges (key_at id end))) (light_form here.0.labels)) (λ labels. (here.0.labels ≡ labels) × (here.0.props ≡ [])) Own
         cases true heavy = let spelled = (own_held heavy).own in (spelled.holder, spelled.words)
         cases false light = light_told here.0.labels here.0.props Own light

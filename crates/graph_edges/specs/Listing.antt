@@ -22,22 +22,22 @@ use Rattle.graph_edges.specs.Finding.{key_of}
 
 -- the edge of a record at a vertex
 abbrev pub key_at : ℕ → EdgeRecord → EdgeKey
-key_at id record = key_of (if record.inward then record.other else id) record.ordinal
+key_at id end = key_of (if end.inward then end.other else id) end.ordinal
 
 abbrev pub passes_at : Graph → ℕ → Option (List (List Atom)) → EdgeRecord → Bool
-passes_at g id test record = option_map_or (λ edge. passes_test g test edge.labels edge.props) (find edge_cmp (key_at id record) g.edges) false
+passes_at g id test end = option_map_or (λ edge. passes_test g test edge.labels edge.props) (find edge_cmp (key_at id end) g.edges) false
 
 -- whether it has a line
 abbrev pub is_shown : Graph → ℕ → Dir → Option (List (List Atom)) → EdgeRecord → Bool
-is_shown g id dir test record = is_listed dir record && passes_at g id test record
+is_shown g id dir test end = is_listed dir end && passes_at g id test end
 
 -- its labels and properties are what the form of the record tells
-pub record IsOfEdge (id : ℕ) (record : EdgeRecord) (g : Graph) (contents : Contents) : Type 0 where
+pub record IsOfEdge (id : ℕ) (end : EdgeRecord) (g : Graph) (contents : Contents) : Type 0 where
   pub edge : Edge
-  pub there : find edge_cmp (key_at id record) g.edges ≡ Some edge
-  pub told : MatchForm record.form (λ labels. (edge.labels ≡ labels) × (edge.props ≡ []))
-      (λ own. IsEdgeHolder (edge_holder_for g.types (key_at id record).source record.ordinal edge)
-      × (content_of contents own ≡ edge_object_words (edge_holder_for g.types (key_at id record).source record.ordinal edge)))
+  pub there : find edge_cmp (key_at id end) g.edges ≡ Some edge
+  pub told : MatchForm end.form (λ labels. (edge.labels ≡ labels) × (edge.props ≡ []))
+      (λ own. IsEdgeHolder (edge_holder_for g.types (key_at id end).source end.ordinal edge)
+      × (content_of contents own ≡ edge_object_words (edge_holder_for g.types (key_at id end).source end.ordinal edge)))
 
 module _ {N : Type 0} where
   -- a fact of each graph, and of the contents that represent it, at which the transaction may be after it read
@@ -45,17 +45,17 @@ module _ {N : Type 0} where
   Everywhere old new Holds = (store : Contents) (g : Graph) → Represents old.shape (overlay store old.writes) g → Agrees new.reads store → Holds g (overlay store old.writes)
 
   -- the record is that of an edge, whose own object is known if it has one
-  pub record KnowsRecord (id : ℕ) (record : EdgeRecord) (state : StoreState N) : Type 0 where
-    pub own : OwnIsKnown record.form state
-    pub is : Everywhere state state (IsOfEdge id record)
+  pub record KnowsRecord (id : ℕ) (end : EdgeRecord) (state : StoreState N) : Type 0 where
+    pub own : OwnIsKnown end.form state
+    pub is : Everywhere state state (IsOfEdge id end)
 
-  pub record PassesEdge (id : ℕ) (test : Option (List (List Atom))) (record : EdgeRecord) (old new : StoreState N) (passed : Bool) : Type 0 where
+  pub record PassesEdge (id : ℕ) (test : Option (List (List Atom))) (end : EdgeRecord) (old new : StoreState N) (passed : Bool) : Type 0 where
     pub looks : Looks old new
-    pub passed : Everywhere old new (λ g _. passed ≡ passes_at g id test record)
+    pub passed : Everywhere old new (λ g _. passed ≡ passes_at g id test end)
 
-  pub record ListsEdge (id : ℕ) (dir : Dir) (test : Option (List (List Atom))) (record : EdgeRecord) (before after : List EdgeLine) (old new : StoreState N) : Type 0 where
+  pub record ListsEdge (id : ℕ) (dir : Dir) (test : Option (List (List Atom))) (end : EdgeRecord) (before after : List EdgeLine) (old new : StoreState N) : Type 0 where
     pub looks : Looks old new
-    pub lines : Everywhere old new (λ g _. after ≡ before ++ (if is_shown g id dir test record then line_of id record ∷ [] else []))
+    pub lines : Everywhere old new (λ g _. after ≡ before ++ (if is_shown g id dir test end then line_of id end ∷ [] else []))
 
   pub record ListsEdges (id : ℕ) (dir : Dir) (test : Option (List (List Atom))) (records : List EdgeRecord) (old new : StoreState N) (lines : List EdgeLine) : Type 0 where
     pub looks : Looks old new

@@ -31,7 +31,7 @@ pub(crate) fn list_edges<S: Store<GraphLaw>>(
     requires begun { (S.state store.old).phase ≢ Idle }
     requires stands { Knows Stands (S.state store.old) }
     requires names { Everywhere (S.state store.old) (S.state store.old) (λ g _. names.now ≡ names_of g) }
-    requires records { AllByRecursion (λ edge. KnowsRecord id edge (S.state store.old)) edges.now }
+    requires ends { AllByRecursion (λ edge. KnowsRecord id edge (S.state store.old)) edges.now }
     ensures works { Works Fits S.state S.explains S.says (λ _. IsOwnAmong edges.now) Nowhere store.old store.new result }
     ensures listed { IfOk result (λ lines. ListsEdges id dir test.now edges.now (S.state store.old) (S.state store.new) lines) }
 {
@@ -57,7 +57,7 @@ fn list_edge<S: Store<GraphLaw>>(
     requires begun { (S.state store.old).phase ≢ Idle }
     requires stands { Knows Stands (S.state store.old) }
     requires names { Everywhere (S.state store.old) (S.state store.old) (λ g _. names.now ≡ names_of g) }
-    requires record { KnowsRecord id edge.now (S.state store.old) }
+    requires end { KnowsRecord id edge.now (S.state store.old) }
     ensures works { Works Fits S.state S.explains S.says (OwnOf edge.now.form) Nowhere store.old store.new result }
     ensures listed { OnOk result (ListsEdge id dir test.now edge.now lines.old lines.new (S.state store.old) (S.state store.new)) }
 {

@@ -34,7 +34,7 @@ pub(crate) fn edge_passes<S: Store<GraphLaw>>(
     requires begun { (S.state store.old).phase ≢ Idle }
     requires stands { Knows Stands (S.state store.old) }
     requires names { Everywhere (S.state store.old) (S.state store.old) (λ g _. names.now ≡ names_of g) }
-    requires record { KnowsRecord id edge.now (S.state store.old) }
+    requires end { KnowsRecord id edge.now (S.state store.old) }
     ensures works { Works Fits S.state S.explains S.says (OwnOf edge.now.form) Nowhere store.old store.new result }
     ensures passed { IfOk result (λ passed. PassesEdge id test.now edge.now (S.state store.old) (S.state store.new) passed) }
 {

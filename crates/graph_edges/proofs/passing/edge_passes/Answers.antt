@@ -1,0 +1,15 @@
+use Rattle.std.proofs.Common.{subst, sym, ap, ◌∙◌, ◌≡◌, Option, List, Some}
+use Rattle.gdi_kinds.specs.declared.constraint.Atom.{Atom}
+use Rattle.rma_layout.specs.Ranges.{IsInRange}
+use Rattle.object_store.proofs.Works.{same_went, went-gave_up}
+use Rattle.graph_edges.specs.Listing.{PassesEdge}
+use Rattle.graph_edges.proofs.EdgesPassing.{labels_known, passes_always, passes_edge, props_known}
+use Rattle.graph_edges.proofs.passing.edge_passes.Goals as goal
+
+pub holder_passes-requires-clause-labels : goal.holder_passes-requires-clause-labels
+holder_passes-requires-clause-labels g c =
+    labels_known c.requires.stands c.requires.names c.requires.end c.in_ok-holder.ensures.found (subst IsInRange c.geometry-geometry.ensures c.keeps_ranges.ensures) c.in_ok-holder.ensures.works.went.keeps.sound
+
+pub holder_passes-requires-clause-types : goal.holder_passes-requires-clause-types
+holder_passes-requires-clause-types g c =
+    props_known c.requires.stands c.requires.names c.requires.end c.in_ok-holder.ensures.found (subst IsInRange c.geometry-geometry.ensures c.keeps_ranges.ensures) c.in_ok-holder.ensures.works.went.keeps.sound
