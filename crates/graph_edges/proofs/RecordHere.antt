@@ -67,6 +67,14 @@ module _ {shape : Shape} {contents : Contents} {g : Graph} (ranges : IsInRange s
   pub to_at : AllByRecursion (λ entry. EdgeAt g is.edges id (record_at_target is.vertices is.edges entry.0 entry.1)) (edges_to g id)
   to_at = All-filter _ (λ entry. EdgeAt g is.edges id (record_at_target is.vertices is.edges entry.0 entry.1)) (λ entry. entry.1.target == id) (λ entry passes found. (entry.1, found, refl)) g.edges entries_there
 
+  -- the edges themselves
+  pub from_found : AllByRecursion (λ entry. find edge_cmp (key_at id (record_at_source is.vertices is.edges entry.0 entry.1)) g.edges ≡ Some entry.1) (edges_from g id)
+  from_found = All-filter _ (λ entry. edge_at g id entry.0.ordinal ≡ Some entry.1) (λ entry. entry.0.source == id)
+      (λ entry passes found. subst (λ (source : ℕ). edge_at g source entry.0.ordinal ≡ Some entry.1) (eqb-true entry.0.source id passes) found) g.edges entries_there
+
+  pub to_found : AllByRecursion (λ entry. find edge_cmp (key_at id (record_at_target is.vertices is.edges entry.0 entry.1)) g.edges ≡ Some entry.1) (edges_to g id)
+  to_found = All-filter _ (λ entry. edge_at g entry.0.source entry.0.ordinal ≡ Some entry.1) (λ entry. entry.1.target == id) (λ entry passes found. found) g.edges entries_there
+
   pub each_at : AllByRecursion (EdgeAt g is.edges id) (records_of g is.vertices is.edges id)
   each_at = All-append (EdgeAt g is.edges id) (map (λ entry. record_at_source is.vertices is.edges entry.0 entry.1) (edges_from g id)) (map (λ entry. record_at_target is.vertices is.edges entry.0 entry.1) (edges_to g id))
       (All-over_map (EdgeAt g is.edges id) (λ entry. record_at_source is.vertices is.edges entry.0 entry.1) (edges_from g id) from_at)
