@@ -1,11 +1,12 @@
 -- A transaction that only looks and was tried anew.
-use Rattle.std.proofs.Common.{◌≡◌, ◌∙◌, ℕ, ◌+◌, ◌<◌, ◌≤◌, true, false, length, Some, None, IsSome, sym, subst, arith, ◌⊎◌, inl, inr}
+use Rattle.std.proofs.Common.{◌≡◌, ◌∙◌, ℕ, ◌+◌, ◌<◌, ◌≤◌, true, false, length, Some, None, IsSome, refl, sym, subst, arith, ◌⊎◌, inl, inr}
 use Rattle.std.proofs.lemmas.Bool.{false≢true}
 use Rattle.gdi_kinds.specs.declared.call.Call.{Call}
 use Rattle.gdi_kinds.specs.declared.txn.Txn.{Txn}
 use Rattle.gdi_kinds.specs.Calls.{is_writing}
 use Rattle.rma_layout.specs.Shape.{Shape}
 use Rattle.rma_layout.specs.Placement.{Place}
+use Rattle.object_store.specs.declared.phase.Phase.TheVariants.{Idle}
 use Rattle.object_store.specs.State.{Said, StoreState, names_nothing, names_object, names_rank}
 use Rattle.object_store.specs.Sound.{KeepsCommits}
 use Rattle.object_store.specs.Calls.{Aborts}
@@ -130,3 +131,21 @@ module _ {txn : Txn} {old now : StoreState Noted} where
       → EvenAnew txn old new (λ first. IsRefused reaches txn first new said)
   refused_anew {reaches} {new} {said} (inl same) keeps lasts did = inl (subst (λ (first : StoreState Noted). IsRefused reaches txn first new said) same did)
   refused_anew {reaches} {new} {said} (inr lost) keeps lasts did = inr (anew_then lost.anew keeps, refused_untold lost new lasts did)
+
+-- ---- afterwards
+
+-- there is no transaction any more
+pub is_over : (txn : Txn) (old new : StoreState Noted) (ended : Ended) → EndsAs txn old new ended → new.phase ≡ Idle
+is_over txn old new (Wrote number replies) did = did.ended.phase
+is_over txn old new (Read place replies) did = did.ended.phase
+is_over txn old new Aborted did = did.left.ended.phase
+
+fewer : (txn : Txn) (ended : Ended) (n : ℕ) (first last : StoreState Noted) → first.allowance ≡ n → EndsAs txn first last ended → n ≤ last.allowance + 1
+fewer txn (Wrote number replies) n first last is did = let less = did.allowance in omega (arith, less, is)
+fewer txn (Read place replies) n first last is did = let same = did.keeps.allowance in omega (arith, same, is)
+fewer txn Aborted n first last is did = let same = did.left.commits.allowance in omega (arith, same, is)
+
+-- a transaction takes one commit at most
+pub takes_a_commit : (txn : Txn) (old new : StoreState Noted) (ended : Ended) → EvenAnew txn old new (λ first. Ends txn first new ended) → old.allowance ≤ new.allowance + 1
+takes_a_commit txn old new ended (inl ends) = fewer txn ended old.allowance old new refl ends.how
+takes_a_commit txn old new ended (inr anew) = fewer txn ended old.allowance (untold old) new refl anew.1.how

@@ -32,6 +32,7 @@ where
     ensures keeps { KeepsThrough txn.now (S.state store.old) (S.state store.new) }
     ensures ended { IfOk result (λ ended. EvenAnew txn.now (S.state store.old) (S.state store.new) (λ old. Ends txn.now old (S.state store.new) ended)) }
     ensures refused { IfErr result (λ why. EvenAnew txn.now (S.state store.old) (S.state store.new) (λ old. IsRefused A.reaches txn.now old (S.state store.new) (S.says why))) }
+    ensures over { (S.state store.new).phase ≡ Idle }
     ensures lasting { IfErr result (λ why. (S.says why).passing ≡ false) }
     ensures explained { IfErr result (λ why. S.explains store.old store.new why) }
     ensures explained_still { StaysExplained S.explains store.old store.new }

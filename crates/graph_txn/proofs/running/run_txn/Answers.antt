@@ -3,7 +3,7 @@ use Rattle.object_store.specs.Sound.{StaysExplained}
 use Rattle.object_store.proofs.Working.{explained-then}
 use Rattle.graph_txn.specs.Ending.{IsRefused}
 use Rattle.graph_txn.specs.Keeping.{EvenAnew, KeepsThrough}
-use Rattle.graph_txn.proofs.Anew.{HasLost, ends_anew, keeps_tried, lose, refused_anew, still_allowed}
+use Rattle.graph_txn.proofs.Anew.{HasLost, ends_anew, is_over, keeps_tried, lose, refused_anew, still_allowed}
 use Rattle.graph_txn.proofs.running.run_txn.Goals as goal
 
 pub loop-ended-init : goal.loop-ended-init
@@ -48,6 +48,7 @@ returns-in-Ok g c =
       keeps = keeps_tried inv.tried did.keeps;
       ended = ends_anew inv.tried did.keeps did.ended;
       refused = tt;
+      over = is_over c.args.txn.now _ _ c.in-Ok.ended did.ended.how;
       lasting = tt;
       explained = tt;
       explained_still = explained-then g.S.Store.explains c.args.store.now c.loop-ended.store c.run_once.new.store inv.still did.explained_still;
@@ -63,6 +64,7 @@ returns-then-not-again g c =
       ended = tt;
       refused = subst (λ (store : g.row.S.Denot). EvenAnew c.args.txn.now (g.S.Store.state c.args.store.now) (g.S.Store.state store) (λ first. IsRefused g.A.Applies.reaches c.args.txn.now first (g.S.Store.state store) (g.S.Store.says c.in-Err.why))) (sym c.again.ensures.same)
           (refused_anew inv.tried did.keeps lasts did.refused);
+      over = ap (λ (store : g.row.S.Denot). (g.S.Store.state store).phase) c.again.ensures.same ∙ did.refused.aborted.ended.phase;
       lasting = lasts;
       explained = subst (λ (store : g.row.S.Denot). g.S.Store.explains c.args.store.now store c.in-Err.why) (sym c.again.ensures.same) (inv.still.earlier c.run_once.new.store c.in-Err.why did.explained);
       explained_still = subst (λ (store : g.row.S.Denot). StaysExplained g.S.Store.explains c.args.store.now store) (sym c.again.ensures.same)
