@@ -94,7 +94,9 @@ low_by None h = absurd (cc h)
 low_by (Some bound) h = (λ e. cc e, let less : bound < 2 ^ 43 = grind (arith, nat_tests) in omega (arith, less))
 
 is_low_by : (found : Option ℕ) (bound : ℕ) → found ≡ Some bound → bound < 2 ^ 43 → is_low found ≡ true
-is_low_by found bound is less = ap is_low is ∙ grind (arith, nat_tests)
+is_low_by found bound is less =
+    let low : nat_lt bound (2 ^ 43) ≡ true = grind (arith, nat_tests) in
+    ap is_low is ∙ low
 
 none_own : (own : List OwnBlock) → has_none own ≡ true → own ≡ []
 none_own [] h = refl
@@ -337,15 +339,15 @@ module _ {N : Type 0} (window : WindowModel) (rank : RankModel N) (txn : Txn)
       → StopsAt shape store txn.writes txn.taken.items new after.view home
       → IsFirstWithoutBlocks shape store txn.writes home
   stops_first new after home owns has seen within stops =
-      let use = λ (other : ℕ). ap (λ s. contents_use shape (store_after s) other) seen in
+      let used = λ (other : ℕ). ap (λ s. contents_use shape (store_after s) other) seen in
       let own = λ (other : ℕ). same_on shape other (places_of after.view.private) new owns.owned has.blocks in
       record {
         within = stops.within;
-        without = λ enough. omega (arith, enough, stops.all_used, use home, own home, stops.short, made_are home);
+        without = λ enough. omega (arith, enough, stops.all_used, used home, own home, stops.short, made_are home);
         first = λ other less. omega (
           arith,
           within other (omega (arith, less, stops.within)),
-          use other,
+          used other,
           own other,
           stops.before other less,
           made_are other,

@@ -1,8 +1,7 @@
 -- Blocks are given back by a rank that is alone: each is free then.
-use Rattle.std.proofs.Common.{◌≡◌, ◌≢◌, ℕ, ◌+◌, ◌-◌, ◌^◌, ◌<◌, ◌≤◌, List, [], ◌∷◌, ◌++◌, refl, sym, ap, ◌∙◌, subst, inl, inr, arith, Option, Some, None, ◌==◌, cond}
+use Rattle.std.proofs.Common.{◌≡◌, ◌≢◌, ℕ, ◌+◌, ◌-◌, ◌^◌, ◌<◌, ◌≤◌, List, [], ◌∷◌, ◌++◌, refl, sym, ap, ◌∙◌, subst, inl, inr, arith, Option, Some, None, ◌==◌, cond, eq-eqb}
 use Rattle.std.specs.Option.{unwrap_or}
 use Rattle.std.proofs.lemmas.Bool.{cases_eq}
-use Rattle.std.proofs.lemmas.Bool.Decides.{nat_tests}
 use Rattle.std.proofs.lemmas.List.Sums.{sum_by-cons}
 use Rattle.rma_layout.specs.Shape.{Shape}
 use Rattle.rma_layout.specs.Placement.{Place}
@@ -17,18 +16,22 @@ use Rattle.object_txn.specs.Alone.{FreesBut, HasSmallTags, HasTagsFor, OwnsTaken
 use Rattle.object_txn.specs.Tied.{HasTaken}
 use Rattle.object_txn.proofs.AloneFacts.{few_on}
 
+-- one block, counted on a rank
+abbrev pub one_on : ℕ → Place → ℕ
+one_on home block = cond (block.rank == home) 1 0
+
 -- so many are on a rank with one block more in front
 pub counted_first : (home : ℕ) (block : Place) (more : List Place)
-    → count_on home (block ∷ more) ≡ cond (block.rank == home) 1 0 + count_on home more
-counted_first home block more = sum_by-cons (λ (b : Place). cond (b.rank == home) 1 0) block more
+    → count_on home (block ∷ more) ≡ one_on home block + count_on home more
+counted_first home block more = sum_by-cons (one_on home) block more
 
-pub on_own_rank : (block : Place) → cond (block.rank == block.rank) 1 0 ≡ 1
-on_own_rank block = grind (arith, nat_tests)
+pub on_own_rank : (block : Place) → one_on block.rank block ≡ 1
+on_own_rank block = ap (λ b. cond b 1 0) (eq-eqb block.rank block.rank refl)
 
 module _ {N : Type 0} (shape : Shape) (all left more : List Place) (block : Place)
     (before now after : RankModel N) (low : HasTagsFor shape all before.view)
     (was : FreesBut shape all left before now) (there : block.rank < shape.ranks)
-    (counted : (home : ℕ) → count_on home left ≡ cond (block.rank == home) 1 0 + count_on home more)
+    (counted : (home : ℕ) → count_on home left ≡ one_on home block + count_on home more)
     (told : GivesAlone block now after) where
   frees_by : (found : Option ℕ) → bound_of now.view.bounds block.rank ≡ found → FreesBut shape all more before after
   frees_by None e = absurd (omega (
@@ -72,7 +75,7 @@ frees_none shape all rank = record { spares = refl; tags = λ home below. omega 
 
 -- the last of some blocks, counted
 pub counted_last : (home : ℕ) (items more : List Place) (block : Place) → items ≡ more ++ block ∷ []
-    → count_on home items ≡ cond (block.rank == home) 1 0 + count_on home more
+    → count_on home items ≡ one_on home block + count_on home more
 counted_last home items more block is =
     omega (arith, ap (count_on home) is, on-both home more (block ∷ []), counted_first home block [])
 

@@ -1,10 +1,9 @@
 -- Just so many blocks are taken on a rank as the written objects there grow by.
-use Rattle.std.proofs.Common.{◌≡◌, ◌≢◌, ℕ, zero, suc, ◌+◌, ◌-◌, ◌<◌, ◌≤◌, ◌==◌, ◌&&◌, not, max, Bool, true, false, cond, List, [], ◌∷◌, ◌++◌, length, length-append, refl, sym, ap, ◌∙◌, subst, inl, inr, ◌⊎◌, arith, Option, Some, None}
+use Rattle.std.proofs.Common.{◌≡◌, ◌≢◌, ℕ, zero, suc, ◌+◌, ◌-◌, ◌<◌, ◌≤◌, ◌==◌, ◌&&◌, not, max, Bool, true, false, cond, List, [], ◌∷◌, ◌++◌, length, length-append, refl, sym, ap, ◌∙◌, subst, inl, inr, ◌⊎◌, arith, Option, Some, None, ne_eqb}
 use Rattle.std.specs.Prelude.{is_some}
 use Rattle.std.specs.Option.{unwrap_or}
 use Rattle.std.specs.List.{AllByRecursion}
 use Rattle.std.proofs.lemmas.Bool.{cases_eq}
-use Rattle.std.proofs.lemmas.Bool.Decides.{nat_tests}
 use Rattle.std.proofs.lemmas.List.Sums.{sum_by-cons}
 use Rattle.rma_layout.specs.Shape.{Shape}
 use Rattle.rma_layout.specs.Placement.{Place, IsBlock, same_place}
@@ -33,15 +32,18 @@ use Rattle.object_txn.specs.Moves.{NamesRank}
 use Rattle.object_txn.specs.Planning.{Plans, PlansNext, own_start}
 use Rattle.object_txn.specs.Tied.{chain_known}
 
+abbrev one_on : ℕ → Place → ℕ
+one_on home block = cond (block.rank == home) 1 0
+
 -- blocks of one rank are on no other
 pub none_on : (home other : ℕ) (blocks : List Place) → home ≢ other
     → AllByRecursion (λ (block : Place). block.rank ≡ home) blocks → count_on other blocks ≡ 0
 none_on home other [] ne h = refl
 none_on home other (block ∷ more) ne h =
-    let away : cond (block.rank == other) 1 0 ≡ 0 = let e = h.0 in grind (arith, nat_tests) in
+    let away : one_on other block ≡ 0 = ap (λ b. cond b 1 0) (ne_eqb block.rank other (λ e. ne (sym h.0 ∙ e))) in
     omega (
       arith,
-      sum_by-cons (λ (b : Place). cond (b.rank == other) 1 0) block more,
+      sum_by-cons (one_on other) block more,
       away,
       none_on home other more ne h.1,
     )
@@ -52,29 +54,31 @@ start_length object [] = refl
 start_length object (block ∷ more) =
     omega (arith, length-append (block ∷ more) (own_start object (block ∷ more)))
 
--- an object grows by what its new words ask for beyond what it has
-pub growth_is : (shape : Shape) (object : Place) (before after : List ℕ)
-    → max (max 1 (chain_length shape object before)) (chain_length shape object after)
-    ≡ max 1 (chain_length shape object before) + growth shape object.block before after
-growth_is shape object before after = by_cases (is_reserved shape object.block) before after
-  where
-    abbrev blocks : List ℕ → ℕ
-    blocks words = blocks_for (length words) (shape.words - 1)
+module _ (shape : Shape) where
+  abbrev as_blocks : List ℕ → ℕ
+  as_blocks words = blocks_for (length words) (shape.words - 1)
 
-    abbrev has : Bool → List ℕ → ℕ
-    has reserved words = cond (not reserved && is_empty words) 0 (blocks words)
+  abbrev has_blocks : Bool → List ℕ → ℕ
+  has_blocks reserved words = cond (not reserved && is_empty words) 0 (as_blocks words)
 
-    abbrev grows : Bool → List ℕ → List ℕ → ℕ
-    grows reserved old new = cond reserved (blocks new - blocks old)
-        (cond (is_empty new) 0 (cond (is_empty old) (blocks new - 1) (blocks new - blocks old)))
+  abbrev grows_blocks : Bool → List ℕ → List ℕ → ℕ
+  grows_blocks reserved before after = cond reserved (as_blocks after - as_blocks before)
+      (cond (is_empty after) 0 (cond (is_empty before) (as_blocks after - 1) (as_blocks after - as_blocks before)))
 
-    by_cases : (reserved : Bool) (old new : List ℕ)
-        → max (max 1 (has reserved old)) (has reserved new) ≡ max 1 (has reserved old) + grows reserved old new
-    by_cases true old new = omega arith
-    by_cases false [] [] = omega arith
-    by_cases false [] (w ∷ ws) = omega arith
-    by_cases false (v ∷ vs) [] = omega arith
-    by_cases false (v ∷ vs) (w ∷ ws) = omega arith
+  grows_so : (reserved : Bool) (before after : List ℕ)
+      → max (max 1 (has_blocks reserved before)) (has_blocks reserved after)
+      ≡ max 1 (has_blocks reserved before) + grows_blocks reserved before after
+  grows_so true before after = omega arith
+  grows_so false [] [] = omega arith
+  grows_so false [] (w ∷ ws) = omega arith
+  grows_so false (v ∷ vs) [] = omega arith
+  grows_so false (v ∷ vs) (w ∷ ws) = omega arith
+
+  -- an object grows by what its new words ask for beyond what it has
+  pub growth_is : (object : Place) (before after : List ℕ)
+      → max (max 1 (chain_length shape object before)) (chain_length shape object after)
+      ≡ max 1 (chain_length shape object before) + growth shape object.block before after
+  growth_is object before after = grows_so (is_reserved shape object.block) before after
 
 module _ (shape : Shape) (contents writes : Contents) where
   -- by how much an object grows that is written and no more left

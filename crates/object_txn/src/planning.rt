@@ -138,11 +138,13 @@ fn plan_next<L: Law>(
     ensures follows { Follows rank.old.view rank.new.view }
 {
     match writes.get(at) {
-        Some(words) => {
-            let plan = plan_one(window, rank, taken, at, blocks, words.len() as u64)?;
-            add(plans, plan)?;
-            Ok(())
-        }
+        Some(words) => match plan_one(window, rank, taken, at, blocks, words.len() as u64) {
+            Ok(plan) => {
+                add(plans, plan)?;
+                Ok(())
+            }
+            Err(why) => Err(why),
+        },
         None => Ok(()),
     }
 }
@@ -185,7 +187,9 @@ fn plan_one<L: Law>(
     let kept = blocks.len();
     let used = used_by(window, at, words);
     let mut blocks = begun_with(at, blocks)?;
-    grow(window, rank, taken, at.rank(), &mut blocks, used)?;
+    if let Err(why) = grow(window, rank, taken, at.rank(), &mut blocks, used) {
+        return Err(why);
+    }
     Ok(Plan {
         at,
         blocks,

@@ -40,10 +40,10 @@ returns-clause-tied g c =
     (c.truths.ensures.window ∙ (c.give_surplus.ensures.window ∙ (c.leave_gate.ensures.window ∙ (c.leave_all.ensures.window ∙ c.requires.window))))
     (λ object. ap (λ (l : Locks). hold_of l object) locks ∙ c.leave_all.ensures.left.none object)
     (record { clean = dirty ∙ c.requires.clean; closed = opened ∙ c.requires.closed; gate = gate })
-    c.end.ensures
+    c.end.ensures.none
 
 pub returns-clause-free : goal.returns-clause-free
-returns-clause-free g c = free_by c.args.window.now c.truths.new.self c.end.new.self (returns-clause-tied g c) c.end.ensures
+returns-clause-free g c = free_by c.args.window.now c.truths.new.self c.end.new.self (returns-clause-tied g c) c.end.ensures.none
 
 pub returns-clause-given : goal.returns-clause-given
 returns-clause-given g c = record {

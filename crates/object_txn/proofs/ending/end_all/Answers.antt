@@ -22,7 +22,7 @@ returns-clause-given g c = record {
 pub returns-clause-free : goal.returns-clause-free
 returns-clause-free g c =
     let tied : IsTied c.args.window.now c.truths.new.self c.end.new.self = search rules in
-    free_by c.args.window.now c.truths.new.self c.end.new.self tied c.end.ensures
+    free_by c.args.window.now c.truths.new.self c.end.new.self tied c.end.ensures.none
 
 pub returns-clause-alone : goal.returns-clause-alone
 returns-clause-alone g c = λ owns.

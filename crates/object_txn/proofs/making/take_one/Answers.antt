@@ -130,5 +130,9 @@ pub returns-in-Err-Worn-clause-full : goal.returns-in-Err-Worn-clause-full
 returns-in-Err-Worn-clause-full g c = λ was _.
     absurd (never_worn c.args.window.now.shape c.args.home c.args.rank.now c.take.new.rank c.args.taken.now.items was c.take.ensures.follows c.take.ensures.only
     c.take.result (c.take.ensures.alone was.alone) c.in-Err-Worn.head (c.in-Err-Worn.is ∙ ap Err c.in-Err-Worn.field-0-is) c.requires.home
-    (omega (arith, few_on c.args.window.now.shape c.args.home c.args.taken.now.items c.requires.taken.once c.requires.taken.blocks,
-    c.keeps_ranges.ensures.blocks, ap (λ s. s.blocks) c.geometry.ensures)))
+    (omega (
+      arith,
+      few_on c.args.window.now.shape c.args.home c.args.taken.now.items c.requires.taken.once c.requires.taken.blocks,
+      c.keeps_ranges.ensures.blocks,
+      ap (λ s. s.blocks) c.geometry.ensures,
+    )))

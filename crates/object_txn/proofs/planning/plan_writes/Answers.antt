@@ -2,6 +2,10 @@ use Rattle.std.proofs.Common.{arith, ◌∙◌, List, refl, sym, ap, subst}
 use Rattle.rma_layout.specs.Placement.{Place}
 use Rattle.window_rule.specs.View.{View, Known}
 use Rattle.window_rule.specs.Partition.{places_of, times}
+use Rattle.object_words.specs.Entries.{store_after}
+use Rattle.fabric.specs.Window.{RankModel}
+use Rattle.object_txn.specs.Alone.{OwnsTaken, StopsAt}
+use Rattle.object_txn.proofs.EndingFacts.{rank_by_parts}
 use Rattle.object_txn.specs.declared.txn.Txn.{Txn}
 use Rattle.object_txn.specs.Planning.{AreAllPlans}
 use Rattle.object_txn.proofs.PlanningFacts.{has_own_block, noted_by}
@@ -65,3 +69,24 @@ returns-clause-owns g c = λ block.
       ap (λ (v : View g.row.L-Note.Denot). times block (places_of v.private)) c.truths.ensures.view,
       ap (λ (v : View g.row.L-Note.Denot). times block (places_of v.private)) c.truths-2.ensures.view,
     )
+
+pub returns-in_err-plans-clause-alone : goal.returns-in_err-plans-clause-alone
+returns-in_err-plans-clause-alone g c = λ was. c.plan_all.ensures.alone
+    (subst (λ (r : RankModel g.row.L-Note.Denot). OwnsTaken c.args.window.now.shape r c.args.txn.now.taken.items)
+    (sym (rank_by_parts c.truths.new.self c.args.rank.now c.truths.ensures.window c.truths.ensures.view c.truths.ensures.spares)) was)
+
+pub returns-clause-alone : goal.returns-clause-alone
+returns-clause-alone g c = λ was.
+    subst (λ (r : RankModel g.row.L-Note.Denot). OwnsTaken c.args.window.now.shape r c.plan_all.new.taken.items)
+    (sym (rank_by_parts c.truths-2.new.self c.plan_all.new.rank c.truths-2.ensures.window c.truths-2.ensures.view c.truths-2.ensures.spares))
+    (c.plan_all.ensures.alone
+    (subst (λ (r : RankModel g.row.L-Note.Denot). OwnsTaken c.args.window.now.shape r c.args.txn.now.taken.items)
+    (sym (rank_by_parts c.truths.new.self c.args.rank.now c.truths.ensures.window c.truths.ensures.view c.truths.ensures.spares)) was))
+
+pub returns-in_err-plans-clause-stops : goal.returns-in_err-plans-clause-stops
+returns-in_err-plans-clause-stops g c = λ was home named.
+    subst (λ (v : View g.row.L-Note.Denot). StopsAt c.args.window.now.shape (store_after v.seen) c.args.txn.now.writes c.args.txn.now.taken.items c.plan_all.new.taken.items
+    c.plan_all.new.rank.view home) c.truths.ensures.view
+    (c.in_err-plans.ensures.stops
+    (subst (λ (r : RankModel g.row.L-Note.Denot). OwnsTaken c.args.window.now.shape r c.args.txn.now.taken.items)
+    (sym (rank_by_parts c.truths.new.self c.args.rank.now c.truths.ensures.window c.truths.ensures.view c.truths.ensures.spares)) was) home named)
