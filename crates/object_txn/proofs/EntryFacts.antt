@@ -95,14 +95,14 @@ module _ {N : Type 0} where
         → length first.view.own ≡ length first.view.seen
         → HasBlocksOnEach window.shape (store_after first.view.seen) old.writes
     had_blocks fits is alone whole =
-        let entry' = next_entry (window_state window opened first old) note in
+        let made = next_entry (window_state window opened first old) note in
         let still : IsAlone window.shape last.view = λ rank below. subst (λ rights. 0 < right_count rank rights) (sym recalls_all.rights) (alone rank below) in
         let own : length last.view.own ≡ length first.view.own + 1 = ap length after.own
         ∙ (ap length enters.own ∙ (length-append mid.view.own (number ∷ []) ∙ ap (λ (o : List ℕ). length o + 1) before.own)) in
         let long : length last.view.seen ≡ length first.view.seen + 1 =
         sym (whole_length fits window.shape last.view is still) ∙ (own ∙ ap (λ n. n + 1) whole) in
-        let same = history_same fits window.shape first.view.seen enters.history last.view.seen entry'
+        let same = history_same fits window.shape first.view.seen enters.history last.view.seen made
         (prefix-trans first.view.seen mid.view.seen enters.history before.seen enters.goes_on) seen_is long in
         subst (λ (h : List (Entry N)). HasBlocksOnEach window.shape (store_after h) old.writes) same
-        (last_had fits window.shape [] enters.history entry'
+        (last_had fits window.shape [] enters.history made
         (subst (λ (s : List (Entry N)). EntriesHadBlocks window.shape s) seen_is (is.legal.blocks refl)))

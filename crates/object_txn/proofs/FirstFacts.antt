@@ -2,9 +2,10 @@
 use Rattle.std.proofs.Common.{◌≡◌, ◌≢◌, ℕ, zero, suc, ◌+◌, ◌-◌, ◌^◌, ◌<◌, ◌≤◌, ◌==◌, ◌&&◌, not, Bool, true, false, cond, List, [], ◌∷◌, ◌++◌, length, length-append, get_or, append-nil, refl, sym, ap, ◌∙◌, subst, inl, inr, ◌⊎◌, arith, Option, Some, None, eq-eqb}
 use Rattle.std.specs.Prelude.{is_some, IsSome, nat_lt}
 use Rattle.std.specs.Option.{unwrap_or}
-use Rattle.std.specs.List.{AllByRecursion, list_all, range_with_len}
+use Rattle.std.specs.List.{list_all}
 use Rattle.std.proofs.lemmas.Bool.{cases_eq}
 use Rattle.std.proofs.lemmas.Bool.Decides.{nat_tests}
+use Rattle.std.proofs.lemmas.List.FromFn.{length-range_with_len}
 use mathlib.Core.List.{IsPrefix}
 use Rattle.rma_layout.specs.Shape.{Shape}
 use Rattle.rma_layout.specs.Placement.{Place, IsBlock, IsReserved, same_place}
@@ -30,8 +31,8 @@ use Rattle.block_pool.specs.Alone.{HasLowTag, used_blocks}
 use Rattle.block_pool.proofs.MovesKept.{alone_still}
 use Rattle.object_store.specs.Refusals.{IsFirstWithoutBlocks}
 use Rattle.object_txn.specs.declared.txn.Txn.{Txn}
-use Rattle.object_txn.specs.Alone.{CountsBlocks, CountsFirst, IsMade, OwnsTaken, StopsAt, tag_bound}
-use Rattle.object_txn.specs.State.{free_on, has_no_spare, has_none, is_low, is_ready, most_told, on_each, tells}
+use Rattle.object_txn.specs.Alone.{CountsBlocks, CountsFirst, IsMade, OwnsTaken, StopsAt, TellsFree, tag_bound}
+use Rattle.object_txn.specs.State.{free_on, has_no_spare, has_none, is_low, is_ready, most_told, on_each, tells, window_state}
 use Rattle.object_txn.specs.Tied.{HasTaken, HasWritten, IsTied, MayBeWritten}
 use Rattle.object_txn.proofs.AloneFacts.{owns_still, same_on}
 
@@ -133,11 +134,7 @@ module _ {N : Type 0} (fits : Shape → Entry N → Type 0) (shape : Shape) wher
   pub whole_length : (view : View N) → IsTrueView fits shape view → IsAlone shape view → length view.own ≡ length view.seen
   whole_length view is alone = ap length (own_is_all shape view.seen (record { rights = view.rights; seen = view.seen; own = view.own })
       alone is.ranked (record { begins = ([], append-nil view.seen); own = is.own; rest = tt }))
-      ∙ as_long 0 (length view.seen)
-    where
-      as_long : (k n : ℕ) → length (range_with_len k n) ≡ n
-      as_long k zero = refl
-      as_long k (suc n) = ap suc (as_long (suc k) n)
+      ∙ length-range_with_len 0 (length view.seen)
 
   pub no_more : (xs ys all : List (Entry N)) → xs ++ ys ≡ all → length all ≡ length xs → all ≡ xs
   no_more xs [] all is same = sym is ∙ append-nil xs
@@ -301,13 +298,10 @@ module _ {N : Type 0} (window : WindowModel) (rank : RankModel N) (txn : Txn)
   pub made_are : (home : ℕ) → made_objects shape store txn.writes home ≡ count_on home txn.taken.items
   made_are home =
       let at = λ (b : ℕ). one_if (not (is_reserved shape b) && is_empty (content_of store (on_rank home b)) && is_some (words_at txn.writes (on_rank home b))) in
-      omega (
-        arith,
-        total_is_sum shape.blocks at,
-        sum_below-same shape.blocks at (λ b. times (on_rank home b) txn.taken.items) (λ b _. each (on_rank home b)),
-        on_rank_by_places shape.blocks home txn.taken.items
-            (Each-from_times (λ (block : Place). block.block < shape.blocks) txn.taken.items (λ block there. (tied.taken.blocks block there).1)),
-      )
+      total_is_sum shape.blocks at
+      ∙ (sum_below-same shape.blocks at (λ b. times (on_rank home b) txn.taken.items) (λ b _. each (on_rank home b))
+      ∙ sym (on_rank_by_places shape.blocks home txn.taken.items
+      (Each-from_times (λ (block : Place). block.block < shape.blocks) txn.taken.items (λ block there. (tied.taken.blocks block there).1))))
     where
       each : (block : Place) → one_if (not (is_reserved shape block.block) && is_empty (content_of store block) && is_some (words_at txn.writes block))
           ≡ times block txn.taken.items
@@ -371,3 +365,15 @@ pub first_kept : {N : Type 0} (fits : Shape → Entry N → Type 0) (shape : Sha
     → ((block : Place) → words_at old.writes block ≢ None → words_at new.writes block ≢ None) → CountsFirst shape opened after new
 first_kept fits shape opened before after old new counts follows is agrees clean spares own bounds taken same kept = λ first ready.
     counts_kept fits shape before after old new (counts (sym same ∙ first) ready) follows is agrees clean spares own bounds taken kept
+
+-- a store over a rank that was ready
+pub tells_free : {N : Type 0} (window : WindowModel) (opened rank : RankModel N) (txn : Txn) → txn.first ≡ true
+    → is_ready window.shape opened ≡ true → TellsFree (window_state window opened rank txn)
+tells_free window opened rank txn first ready =
+    let told = both txn.first (is_ready window.shape opened) first ready in
+    record { strict = told; most = ap (λ b. most_told b window.shape rank.view.seen) told }
+
+pub counts_opened : {N : Type 0} (fits : Shape → Entry N → Type 0) (shape : Shape) (opened rank : RankModel N) (txn : Txn) → opened ≡ rank
+    → IsTrueView fits shape rank.view → rank.view.dirty ≡ [] → txn.taken.items ≡ [] → txn.reads ≡ [] → CountsFirst shape opened rank txn
+counts_opened fits shape opened rank txn same is clean none unread = λ first ready.
+    counts_ready fits shape rank txn (ap (is_ready shape) (sym same) ∙ ready) is clean none unread

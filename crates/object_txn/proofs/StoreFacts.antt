@@ -120,13 +120,13 @@ module _ {N : Type 0} (fits : Shape → Entry N → Type 0) (window : WindowMode
   }
 
   module _ (before after : RankModel N) (old new : Txn) (follows : Follows before.view after.view)
-      (firm : IsFirm window.shape opened before after old) where
+      (kept : IsFirm window.shape opened before after old) where
     pub continues : IsTrueView fits window.shape after.view → IsTied window after new → (old.phase ≢ Writing → after.spares ≡ before.spares)
         → Continues fits (window_state window opened before old) (window_state window opened after new)
-    continues is tied spares = recalled before after old new (recalls_by before.view after.view follows) is tied spares firm.clean
+    continues is tied spares = recalled before after old new (recalls_by before.view after.view follows) is tied spares kept.clean
 
     keeps_commits : KeepsCommits (window_state window opened before old) (window_state window opened after new)
-    keeps_commits = record { own = follows.own; allowance = follows.allowance; seen = λ some. firm.seen (told_by (tells window.shape opened old) window.shape before.view.seen some) }
+    keeps_commits = record { own = follows.own; allowance = follows.allowance; seen = λ some. kept.seen (told_by (tells window.shape opened old) window.shape before.view.seen some) }
 
     told_stays : new.first ≡ old.first → tells window.shape opened new ≡ tells window.shape opened old
     told_stays first = ap (λ b. b && is_ready window.shape opened) first
@@ -134,7 +134,7 @@ module _ {N : Type 0} (fits : Shape → Entry N → Type 0) (window : WindowMode
     most_stays : new.first ≡ old.first → most_told (tells window.shape opened new) window.shape after.view.seen
         ≡ most_told (tells window.shape opened old) window.shape before.view.seen
     most_stays first = ap (λ told. most_told told window.shape after.view.seen) (told_stays first)
-        ∙ most_same (tells window.shape opened old) window.shape before.view.seen after.view.seen firm.seen
+        ∙ most_same (tells window.shape opened old) window.shape before.view.seen after.view.seen kept.seen
 
     pub aborts : IsNone new → Aborts (window_state window opened before old) (window_state window opened after new)
     aborts none = record { commits = keeps_commits; ended = record { phase = none.phase; reads = none.reads; writes = none.writes } }
