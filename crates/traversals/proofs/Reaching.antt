@@ -88,12 +88,12 @@ from-there g (s ∷ ss) all i t some =
     ]
 
 not-true : (b : Bool) → (b ≡ true → ⊥) → b ≡ false
-not-true true no = absurd (no refl)
-not-true false no = refl
+not-true true wrong = absurd (wrong refl)
+not-true false wrong = refl
 
 not-false : (b : Bool) → (b ≡ false → ⊥) → b ≡ true
-not-false true no = refl
-not-false false no = absurd (no refl)
+not-false true wrong = refl
+not-false false wrong = absurd (wrong refl)
 
 module _ (outline : Outline) (g : Graph) (well : IsWellFormed g) (is : IsOf g outline) (id : ℕ) (absent : has outline.ids id ≡ false) where
   vertex-listed : (k : ℕ) → IsSome (vertex_at g k) → has outline.ids k ≡ true
