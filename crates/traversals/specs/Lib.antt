@@ -1,5 +1,4 @@
 pub mod Edges
-pub mod Degrees
 pub mod Rows
 pub mod Props
 pub mod Outline
