@@ -2,6 +2,7 @@ pub mod Rows
 pub mod Steps
 pub mod Reaching
 pub mod Telling
+pub mod Counting
 pub mod Atoms
 pub mod ByNames
 pub mod Finding

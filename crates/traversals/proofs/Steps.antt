@@ -5,11 +5,12 @@ use Rattle.std.specs.List.{flat_map}
 use Rattle.std.proofs.lemmas.List.{length-map}
 use Rattle.graph_model.specs.Maps.{Map, keys}
 use Rattle.graph_model.specs.Graph.{Graph, Edge, EdgeKey}
-use Rattle.graph_model.specs.Walks.{both_ways, steps_over, is_walk_by, least_below}
+use Rattle.graph_model.specs.Walks.{both_ways, steps_over, graph_steps, is_walk_by, least_below}
 use Rattle.graph_model.proofs.Levels.{walking}
 use Rattle.graph_walks.specs.Steps.{leads, IsTwoWay}
 use Rattle.graph_walks.proofs.Bools.{same_tests}
 use Rattle.traversals.specs.declared.flat_edge.FlatEdge.{FlatEdge}
+use Rattle.traversals.specs.Degrees.{from_count, to_count, out_degree, in_degree}
 use Rattle.traversals.specs.Edges.{line_of, steps_by, both_by}
 use Rattle.traversals.specs.Outline.{AreSameSteps, IsOf, Outline, labels_of, names_in, props_of}
 
@@ -79,13 +80,16 @@ joining-back edges steps same = λ i t step. same t i ∙ two-way edges t i ∙ 
 -- ---- the outline of a graph's lists
 
 pub outlines : (g : Graph) (ids : List ℕ) (edges : List FlatEdge) (outline : Outline) → outline.names ≡ names_in g → ids ≡ keys g.vertices → outline.labels ≡ labels_of g.vertices → outline.props ≡ props_of g.vertices → edges ≡ map line_of g.edges
-    → outline.ids ≡ ids → AreSameSteps outline.steps (flat_map steps_by edges) → AreSameSteps outline.joining (flat_map both_by edges) → outline.arcs ≡ length edges → IsOf g outline
-outlines g ids edges outline names vertices labels props lines same_ids steps joining arcs = record {
-  names = names;
-  ids = same_ids ∙ vertices;
-  labels = labels;
-  props = props;
-  steps = λ i t. steps i t ∙ ap (λ (es : List FlatEdge). leads (flat_map steps_by es) i t) lines ∙ ap (λ (ss : List (ℕ × ℕ)). leads ss i t) (steps_of_lines g.edges);
-  joining = λ i t. joining i t ∙ ap (λ (es : List FlatEdge). leads (flat_map both_by es) i t) lines ∙ joining_of_lines g.edges i t;
-  arcs = arcs ∙ ap length lines ∙ length-map g.edges line_of;
-}
+    → outline.ids ≡ ids → AreSameSteps outline.steps (flat_map steps_by edges) → AreSameSteps outline.joining (flat_map both_by edges) → outline.out ≡ map (from_count (flat_map steps_by edges)) ids → outline.inn ≡ map (to_count (flat_map steps_by edges)) ids → outline.arcs ≡ length edges → IsOf g outline
+outlines g ids edges outline names vertices labels props lines same_ids steps joining out inn arcs =
+    let same : flat_map steps_by edges ≡ graph_steps g = ap (λ (es : List FlatEdge). flat_map steps_by es) lines ∙ steps_of_lines g.edges in record {
+      names = names;
+      ids = same_ids ∙ vertices;
+      labels = labels;
+      props = props;
+      steps = λ i t. steps i t ∙ ap (λ (es : List FlatEdge). leads (flat_map steps_by es) i t) lines ∙ ap (λ (ss : List (ℕ × ℕ)). leads ss i t) (steps_of_lines g.edges);
+      joining = λ i t. joining i t ∙ ap (λ (es : List FlatEdge). leads (flat_map both_by es) i t) lines ∙ joining_of_lines g.edges i t;
+      out = out ∙ ap (λ (ss : List (ℕ × ℕ)). map (from_count ss) ids) same ∙ ap (map (out_degree g)) vertices;
+      inn = inn ∙ ap (λ (ss : List (ℕ × ℕ)). map (to_count ss) ids) same ∙ ap (map (in_degree g)) vertices;
+      arcs = arcs ∙ ap length lines ∙ length-map g.edges line_of;
+    }

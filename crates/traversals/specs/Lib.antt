@@ -1,4 +1,5 @@
 pub mod Edges
+pub mod Degrees
 pub mod Rows
 pub mod Props
 pub mod Outline

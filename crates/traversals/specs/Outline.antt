@@ -5,6 +5,7 @@ use Rattle.graph_model.specs.Graph.{Graph, Vertex}
 use Rattle.graph_model.specs.Walks.{graph_steps, joining_steps}
 use Rattle.graph_walks.specs.Steps.{leads}
 use Rattle.traversals.specs.declared.flat_prop.FlatProp.{FlatProp}
+use Rattle.traversals.specs.Degrees.{out_degree, in_degree}
 use Rattle.traversals.specs.Props.{row_of_props}
 
 pub record Outline : Type 0 where
@@ -19,6 +20,9 @@ pub record Outline : Type 0 where
   -- the steps along the edges, and those with directions ignored: in which order, and how often, tells nothing
   pub steps : List (ℕ × ℕ)
   pub joining : List (ℕ × ℕ)
+  -- how many edges lead from each vertex, and to it
+  pub out : List ℕ
+  pub inn : List ℕ
   -- how many edges there are
   pub arcs : ℕ
 
@@ -44,4 +48,6 @@ pub record IsOf (g : Graph) (outline : Outline) : Type 0 where
   pub props : outline.props ≡ props_of g.vertices
   pub steps : AreSameSteps outline.steps (graph_steps g)
   pub joining : AreSameSteps outline.joining (joining_steps g)
+  pub out : outline.out ≡ map (out_degree g) (keys g.vertices)
+  pub inn : outline.inn ≡ map (in_degree g) (keys g.vertices)
   pub arcs : outline.arcs ≡ length g.edges

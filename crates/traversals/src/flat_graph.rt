@@ -1,11 +1,13 @@
-ghost use Rattle.std.specs.Prelude.{◌≡◌, length, map, IfOk};
+ghost use Rattle.std.specs.Prelude.{◌≡◌, ◌<◌, Some, length, map, slice_get, IfOk};
 ghost use Rattle.std.specs.List.{AllByRecursion, flat_map};
 ghost use Rattle.graph_model.specs.Graph.{Graph};
 ghost use Rattle.graph_model.specs.Maps.{IsSet, keys};
 ghost use Rattle.graph_walks.specs.Steps.{IsTwoWay, steps_of};
+ghost use Rattle.traversals.specs.Degrees.{from_count, to_count};
 ghost use Rattle.traversals.specs.Edges.{IsBetween, both_by, line_of, steps_by};
 ghost use Rattle.traversals.specs.Outline.{AreSameSteps, IsOf, labels_of, names_in, props_of};
 
+use crate::degrees::{in_degrees, out_degrees};
 use crate::gathering::{joining_along, steps_along};
 use crate::{FlatEdge, FlatNames, LabelRows, PropRows};
 use gdi_kinds::{Duplicate, NoMemory, NumList};
@@ -24,6 +26,9 @@ pub struct FlatGraph {
     // Of the vertices by place, which both steps have.
     labels: LabelRows,
     props: PropRows,
+    // How many edges lead from each, and to each.
+    out: NumList,
+    inn: NumList,
     edges: usize,
 }
 
@@ -34,9 +39,9 @@ impl Model for FlatGraph {
 
     ghost Value = { Outline };
 
-    ghost view = { λ flat. record { names = flat.names; ids = flat.steps.ids; labels = flat.labels; props = flat.props; steps = steps_of flat.steps; joining = steps_of flat.joining; arcs = flat.edges } };
+    ghost view = { λ flat. record { names = flat.names; ids = flat.steps.ids; labels = flat.labels; props = flat.props; steps = steps_of flat.steps; joining = steps_of flat.joining; out = flat.out; inn = flat.inn; arcs = flat.edges } };
 
-    ghost invariant = { λ flat. (flat.joining.ids ≡ flat.steps.ids) × IsTwoWay (steps_of flat.joining) × (length flat.labels ≡ length flat.steps.ids) × (length flat.props ≡ length flat.steps.ids) };
+    ghost invariant = { λ flat. (flat.joining.ids ≡ flat.steps.ids) × IsTwoWay (steps_of flat.joining) × (length flat.labels ≡ length flat.steps.ids) × (length flat.props ≡ length flat.steps.ids) × (length flat.out ≡ length flat.steps.ids) × (length flat.inn ≡ length flat.steps.ids) };
 }
 
 impl FlatGraph {
@@ -60,18 +65,24 @@ impl FlatGraph {
         ensures props { IfOk result (λ flat. flat.props ≡ props) }
         ensures steps { IfOk result (λ flat. AreSameSteps flat.steps (flat_map steps_by edges.now)) }
         ensures joining { IfOk result (λ flat. AreSameSteps flat.joining (flat_map both_by edges.now)) }
+        ensures out { IfOk result (λ flat. flat.out ≡ map (from_count (flat_map steps_by edges.now)) ids) }
+        ensures inn { IfOk result (λ flat. flat.inn ≡ map (to_count (flat_map steps_by edges.now)) ids) }
         ensures arcs { IfOk result (λ flat. flat.arcs ≡ length edges.now) }
         ensures graph { IfOk result (λ flat. (g : Graph) → names ≡ names_in g → ids ≡ keys g.vertices → labels ≡ labels_of g.vertices → props ≡ props_of g.vertices → edges.now ≡ map line_of g.edges → IsOf g flat) }
     {
         let copied = ids.copy(alloc)?;
         let steps = steps_along(alloc, Places::new(alloc, copied)?, edges)?;
         let joining = joining_along(alloc, Places::new(alloc, ids)?, edges)?;
+        let out = out_degrees(alloc, steps.places(), edges)?;
+        let inn = in_degrees(alloc, steps.places(), edges)?;
         Ok(FlatGraph {
             steps,
             joining,
             names,
             labels,
             props,
+            out,
+            inn,
             edges: edges.len(),
         })
     }
@@ -95,6 +106,30 @@ impl FlatGraph {
         ensures { result.now ≡ self.now.names }
     {
         &self.names
+    }
+
+    /// How many edges lead from the vertex at a place. An undirected edge counts once at each of its ends.
+    pub fn out_degree(&self, place: usize) -> u64
+        requires { place < length self.now.ids }
+        ensures { slice_get self.now.out place ≡ Some result }
+    {
+        *self.out.at(place)
+    }
+
+    /// How many edges lead to the vertex at a place. An undirected edge counts once at each of its ends.
+    pub fn in_degree(&self, place: usize) -> u64
+        requires { place < length self.now.ids }
+        ensures { slice_get self.now.inn place ≡ Some result }
+    {
+        *self.inn.at(place)
+    }
+
+    /// The numbers of the labels of the vertex at a place.
+    pub fn labels_at(&self, place: usize) -> &[u32]
+        requires { place < length self.now.ids }
+        ensures { slice_get self.now.labels place ≡ Some result.now }
+    {
+        self.labels.row(place)
     }
 
     /// The labels by place.

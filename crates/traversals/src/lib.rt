@@ -2,6 +2,7 @@
 #![tactic(auto)]
 
 mod compare;
+mod degrees;
 mod flat_edge;
 mod flat_graph;
 mod flat_names;

@@ -1,17 +1,28 @@
-use Rattle.std.proofs.Common.{length, refl, sym, ap, ◌∙◌}
+use Rattle.std.proofs.Common.{ℕ, List, length, map, refl, sym, ap, ◌∙◌}
+use Rattle.std.specs.List.{flat_map}
+use Rattle.std.proofs.lemmas.List.{length-map}
 use Rattle.graph_walks.specs.Steps.{steps_of}
+use Rattle.traversals.specs.Degrees.{from_count, to_count}
+use Rattle.traversals.specs.Edges.{steps_by}
 use Rattle.traversals.proofs.Steps.{joining-back, outlines}
 use Rattle.traversals.proofs.flat_graph.FlatGraph.gather.Goals as goal
 
 pub invariant_of-result : goal.invariant_of-result
-invariant_of-result c = (
-  c.in_ok-joining.ensures.ids ∙ c.in_ok-new-2.ensures ∙ sym (c.in_ok-steps.ensures.ids ∙ c.in_ok-new.ensures ∙ c.in_ok-copied.ensures),
-  joining-back c.args.edges.now (steps_of c.in_ok-joining.joining) c.in_ok-joining.ensures.steps,
-  c.requires.labels ∙ ap length (sym (c.in_ok-steps.ensures.ids ∙ c.in_ok-new.ensures ∙ c.in_ok-copied.ensures)),
-  c.requires.props ∙ ap length (sym (c.in_ok-steps.ensures.ids ∙ c.in_ok-new.ensures ∙ c.in_ok-copied.ensures)),
-)
+invariant_of-result c =
+    let ids = c.in_ok-steps.ensures.ids ∙ c.in_ok-new.ensures ∙ c.in_ok-copied.ensures in (
+      c.in_ok-joining.ensures.ids ∙ c.in_ok-new-2.ensures ∙ sym ids,
+      joining-back c.args.edges.now (steps_of c.in_ok-joining.joining) c.in_ok-joining.ensures.steps,
+      c.requires.labels ∙ ap length (sym ids),
+      c.requires.props ∙ ap length (sym ids),
+      ap length (c.in_ok-out.ensures) ∙ length-map c.places.result.now (from_count (flat_map steps_by c.args.edges.now)) ∙ ap length c.places.ensures,
+      ap length (c.in_ok-inn.ensures) ∙ length-map c.places-2.result.now (to_count (flat_map steps_by c.args.edges.now)) ∙ ap length c.places-2.ensures,
+    )
 
 pub returns-clause-graph : goal.returns-clause-graph
 returns-clause-graph c = λ g names vertices labels props lines.
-    outlines g c.args.ids c.args.edges.now (record { names = c.args.names; ids = c.in_ok-steps.steps.ids; labels = c.args.labels; props = c.args.props; steps = steps_of c.in_ok-steps.steps; joining = steps_of c.in_ok-joining.joining; arcs = length c.args.edges.now }) names vertices labels props lines
-    (c.in_ok-steps.ensures.ids ∙ c.in_ok-new.ensures ∙ c.in_ok-copied.ensures) c.in_ok-steps.ensures.steps c.in_ok-joining.ensures.steps refl
+    let ids = c.in_ok-steps.ensures.ids ∙ c.in_ok-new.ensures ∙ c.in_ok-copied.ensures in
+    outlines g c.args.ids c.args.edges.now
+    (record { names = c.args.names; ids = c.in_ok-steps.steps.ids; labels = c.args.labels; props = c.args.props; steps = steps_of c.in_ok-steps.steps; joining = steps_of c.in_ok-joining.joining; out = c.in_ok-out.out; inn = c.in_ok-inn.inn; arcs = length c.args.edges.now })
+    names vertices labels props lines ids c.in_ok-steps.ensures.steps c.in_ok-joining.ensures.steps
+    (c.in_ok-out.ensures ∙ ap (λ (js : List ℕ). map (from_count (flat_map steps_by c.args.edges.now)) js) (c.places.ensures ∙ ids))
+    (c.in_ok-inn.ensures ∙ ap (λ (js : List ℕ). map (to_count (flat_map steps_by c.args.edges.now)) js) (c.places-2.ensures ∙ ids)) refl
