@@ -87,13 +87,13 @@ module _ (shape : Shape) (g : Graph) (order : IsInOrder g) (id : ℕ) (before : 
       nothing_there None misses = refl
       nothing_there (Some labels) misses = elsewhere labels misses
 
-      equal : (now then : Option (List ℕ)) → is_touched (moved_spots shape id now then) (reserved_spot place) ≡ false → option_map_or w now 0 ≡ option_map_or w then 0
-      equal now then misses =
-          elim (are_kept_alike now then) as (λ b. are_kept_alike now then ≡ b → is_touched (if b then [] else kept_spots shape id now ++ kept_spots shape id then) (reserved_spot place) ≡ false → option_map_or w now 0 ≡ option_map_or w then 0) [
-            | true ↦ λ alike _. ap (λ o. option_map_or w o 0) (kept_alike now then alike)
+      equal : (now was : Option (List ℕ)) → is_touched (moved_spots shape id now was) (reserved_spot place) ≡ false → option_map_or w now 0 ≡ option_map_or w was 0
+      equal now was misses =
+          elim (are_kept_alike now was) as (λ b. are_kept_alike now was ≡ b → is_touched (if b then [] else kept_spots shape id now ++ kept_spots shape id was) (reserved_spot place) ≡ false → option_map_or w now 0 ≡ option_map_or w was 0) [
+            | true ↦ λ alike _. ap (λ o. option_map_or w o 0) (kept_alike now was alike)
             | false ↦ λ _ both.
-                let parts = not_touched-append (kept_spots shape id now) (kept_spots shape id then) (reserved_spot place) both in
-                nothing_there now parts.0 ∙ sym (nothing_there then parts.1)
+                let parts = not_touched-append (kept_spots shape id now) (kept_spots shape id was) (reserved_spot place) both in
+                nothing_there now parts.0 ∙ sym (nothing_there was parts.1)
           ] refl misses
 
   -- no label of the vertex is kept there

@@ -175,8 +175,8 @@ reached true b all is = all
 reached false b all is = never is
 
 implied : (a b : Bool) → (a ≡ true → b ≡ true) → (not a || b) ≡ true
-implied true b then = then refl
-implied false b then = refl
+implied true b leads = leads refl
+implied false b leads = refl
 
 -- an object that a graph has, and each step had, is there when the steps are taken
 still_there : (object : Object) (steps : List Undo) (g : Graph) → is_object g object ≡ true → list_all (had object) steps ≡ true → is_object (rolled_back steps g) object ≡ true
