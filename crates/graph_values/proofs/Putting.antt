@@ -127,22 +127,22 @@ module _ (id : ℕ) (name : Name) (value : Value) where
   add_steps shape g = refl
 
 -- whether a value is of the kind that the type has in the graph
-in_graph : (value : Value) {name : Name} {type : PropType} (right : Bool) → same_kind (kind_of value) type.kind ≡ right → (g : Graph) → IsTypeIn g name (Some type) → same_kind (kind_of value) (kind_at g type.number) ≡ right
-in_graph value right is g known = ap (same_kind (kind_of value)) known.2 ∙ is
+in_graph : (value : Value) (name : Name) (type : PropType) (right : Bool) → same_kind (kind_of value) type.kind ≡ right → (g : Graph) → IsTypeIn g name (Some type) → same_kind (kind_of value) (kind_at g type.number) ≡ right
+in_graph value name type right is g known = ap (same_kind (kind_of value)) known.2 ∙ is
 
 module _ {id : ℕ} {name : Name} {value : Value} {old mid led : StoreState Noted} {Makes Homes : ℕ → Type 0} (ranges : IsInRange old.shape) (names : Reaches (At metadata old.shape) Makes old mid)
     {type : PropType} (typed : FindsType name old mid (Some type)) (bucket : Reaches (IsBucketFor id mid.shape) Homes mid led) {object : Place} (finds : FindsSpot id mid led (Some object)) where
   pub set_wrong_kind : same_kind (kind_of value) type.kind ≡ false → AppliesCall (Set id name value) old led WrongKind
   set_wrong_kind wrong = refused_applied (Set id name value) id name (set_asked id name value) (set_unmade id name value) (set_next id value) (set_steps id name value) ranges names typed bucket finds WrongKind
-      (λ g known vertex. ap (Sets g id type.number value vertex) (in_graph value {name = name} {type = type} false wrong g known))
+      (λ g known vertex. ap (Sets g id type.number value vertex) (in_graph value name type false wrong g known))
 
   pub add_wrong_kind : same_kind (kind_of value) type.kind ≡ false → AppliesCall (Add id name value) old led WrongKind
   add_wrong_kind wrong = refused_applied (Add id name value) id name (add_asked id name value) (add_unmade id name value) (add_next id value) (add_steps id name value) ranges names typed bucket finds WrongKind
-      (λ g known vertex. ap (λ b. Adds g id type.number value vertex b (is_marked g type.number)) (in_graph value {name = name} {type = type} false wrong g known))
+      (λ g known vertex. ap (λ b. Adds g id type.number value vertex b (is_marked g type.number)) (in_graph value name type false wrong g known))
 
   pub add_not_many : same_kind (kind_of value) type.kind ≡ true → type.many ≡ false → AppliesCall (Add id name value) old led NotMany
   add_not_many right single = refused_applied (Add id name value) id name (add_asked id name value) (add_unmade id name value) (add_next id value) (add_steps id name value) ranges names typed bucket finds NotMany
-      (λ g known vertex i. Adds g id type.number value vertex (in_graph value {name = name} {type = type} true right g known i) (single_in g known i))
+      (λ g known vertex i. Adds g id type.number value vertex (in_graph value name type true right g known i) (single_in g known i))
     where
       single_in : (g : Graph) → IsTypeIn g name (Some type) → is_marked g type.number ≡ false
       single_in g known = known.1 ∙ single
@@ -155,8 +155,8 @@ module _ {id : ℕ} {name : Name} {value : Value} {old mid led : StoreState Note
         (λ contents g is leads known. typed_here ranges is id leads name type known)
         (λ contents g is before known there holds steps answer.
         put_ends (Set id name value) old.shape id (valued type.number value) g is.vertices is.edges before (record before { props = with_at before.props type.number (value ∷ []) }) refl refl
-        (well.set_prop g id name type.number before value is.well_formed fits known.0 there (unless (in_graph value {name = name} {type = type} true right g known)))
-        (steps ∙ ap (Sets g id type.number value before) (in_graph value {name = name} {type = type} true right g known)) answer)
+        (well.set_prop g id name type.number before value is.well_formed fits known.0 there (unless (in_graph value name type true right g known)))
+        (steps ∙ ap (Sets g id type.number value before) (in_graph value name type true right g known)) answer)
         ordered ordered_after reaches changes
 
     pub add_applied : type.many ≡ true → Changes (HoldsTyped type object) size (longer type.number value) led new reply → AppliesCall (Add id name value) old new reply
@@ -165,8 +165,8 @@ module _ {id : ℕ} {name : Name} {value : Value} {old mid led : StoreState Note
         (λ contents g is leads known. typed_here ranges is id leads name type known)
         (λ contents g is before known there holds steps answer.
         put_ends (Add id name value) old.shape id (longer type.number value) g is.vertices is.edges before (record before { props = with_at before.props type.number (values_at before.props type.number ++ value ∷ []) }) refl refl
-        (well.add_prop g id name type.number before value is.well_formed fits known.0 there (unless (in_graph value {name = name} {type = type} true right g known)) (unless (marked_in g known)))
-        (steps ∙ (λ i. Adds g id type.number value before (in_graph value {name = name} {type = type} true right g known i) (marked_in g known i))) answer)
+        (well.add_prop g id name type.number before value is.well_formed fits known.0 there (unless (in_graph value name type true right g known)) (unless (marked_in g known)))
+        (steps ∙ (λ i. Adds g id type.number value before (in_graph value name type true right g known i) (marked_in g known i))) answer)
         ordered ordered_after reaches changes
       where
         marked_in : (g : Graph) → IsTypeIn g name (Some type) → is_marked g type.number ≡ true
