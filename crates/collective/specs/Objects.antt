@@ -24,7 +24,7 @@ abbrev pub entries_in : List BucketHolder → List BucketEntry
 entries_in buckets = flat_map (λ bucket. bucket.entries) buckets
 
 -- and by rising identifier
-unfoldable pub in_order : List BucketEntry → VertexObjects → VertexObjects
+abbrev pub in_order : List BucketEntry → VertexObjects → VertexObjects
 in_order [] objects = objects
 in_order (entry ∷ entries) objects = in_order entries (with_at objects entry.id entry.at)
 

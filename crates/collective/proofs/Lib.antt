@@ -1,0 +1,5 @@
+pub mod Buckets
+pub mod InOrder
+pub mod EdgesFrom
+pub mod Standing
+pub mod Copied
