@@ -24,7 +24,7 @@ use Rattle.holder_codec.proofs.Maps.{All-below, All-both, All-from_find, IsMap-b
 use Rattle.collective.specs.Copying.{holders_of}
 use Rattle.collective.specs.Objects.{own_object, own_of, owns_of, all_owns}
 
-All-each : {X : Type 0} {P Q : X → Type 0} → ((x : X) → P x → Q x) → (xs : List X) → AllByRecursion P xs → AllByRecursion Q xs
+pub All-each : {X : Type 0} {P Q : X → Type 0} → ((x : X) → P x → Q x) → (xs : List X) → AllByRecursion P xs → AllByRecursion Q xs
 All-each each [] all = tt
 All-each each (x ∷ xs) all = (each x all.0, All-each each xs all.1)
 

@@ -2,4 +2,3 @@ pub mod Buckets
 pub mod InOrder
 pub mod EdgesFrom
 pub mod Standing
-pub mod Copied
