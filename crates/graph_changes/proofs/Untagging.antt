@@ -1,6 +1,6 @@
 -- The call that takes a label from a vertex does to a store what it does to the graph.
 use Rattle.std.proofs.Common.{◌≡◌, ◌≢◌, ◌∙◌, ℕ, ◌+◌, ◌<◌, ◌≤◌, Bool, true, false, not, cond, ◌&&◌, List, [], ◌∷◌, length, Option, Some, None, IsSome, refl, sym, ap, subst, arith, ◌⊎◌, inl, inr}
-use Rattle.std.specs.Prelude.{IsSomeAnd, is_some}
+use Rattle.std.specs.Prelude.{IsSomeAnd, is_some, ◌==◌}
 use Rattle.std.specs.List.{AllByRecursion}
 use Rattle.std.specs.Option.{option_map_or}
 use Rattle.std.specs.Str.{bytes_eq}
@@ -14,6 +14,7 @@ use Rattle.rma_layout.specs.Shape.{Shape}
 use Rattle.rma_layout.specs.Ranges.{IsInRange}
 use Rattle.rma_layout.specs.Placement.{Place, IsReserved, bucket_of, home_of, metadata, slot_of}
 use Rattle.object_words.specs.Contents.{Agrees, Contents, IsByRisingObject, content_of, overlay, words_at}
+use Rattle.object_words.specs.Blocks.{made_objects}
 use Rattle.object_words.proofs.Overlays.{content-overlay, put_over}
 use Rattle.graph_model.specs.Calls.{graph_after_call, reply_to}
 use Rattle.graph_model.specs.Capacity.{Object, Reserved, OfVertex, OfHeavyEdge, is_object}
@@ -55,6 +56,7 @@ use Rattle.meta_tables.specs.Names as meta
 use Rattle.meta_tables.proofs.Naming.{found_there, represents_names}
 use Rattle.vertex_ops.specs.Vertices.{HeldVertex, HoldsVertex, IsOrderly, KnowsVertex, holder_for, size, untagged}
 use Rattle.vertex_ops.proofs.LabelSets.{some_words}
+use Rattle.object_view.specs.View.{IsOn}
 use Rattle.graph_law.specs.declared.law.Noted.{Noted}
 use Rattle.graph_law.specs.Calls.{AppliesCall, DoesCall, Stands}
 use Rattle.graph_law.specs.Law.{Fits}
@@ -63,7 +65,7 @@ use Rattle.graph_law.proofs.Doing.{does_to, makes_no_more, stays_there}
 use Rattle.graph_law.proofs.Looking.{agrees_before, bucket_reached, left_applied, names_reached, vertex_reached}
 use Rattle.graph_changes.proofs.Labelled.{labels_represented, made_as_before}
 use Rattle.graph_changes.proofs.NewVertex.{found_elsewhere}
-use Rattle.graph_changes.proofs.Temp.{holder_is, led_to, none_here, object_here, vertex_here, words_here}
+use Rattle.graph_changes.proofs.Temp.{holder_is, led_to, none_here, object_here, place_here, vertex_here, words_here}
 
 -- ---- how the call ends
 
@@ -245,3 +247,179 @@ module _ {id : ℕ} {name : Name} {old named : StoreState Noted} {label : Option
 
       pub lacks_applied : reply ≢ Done → IsSound Fits cleared → AppliesCall (Untag id name) old cleared reply
       lacks_applied refused sound = left_applied (looks-then looks (changes.unchanged refused)) sound (λ store g is agrees. lacks_ends store g is agrees refused) (λ store g is agrees place. read_vertex store g is agrees place)
+
+      -- ---- the index still has the label
+
+      module _ (ordered : IsByRisingObject old.writes) (ordered_cleared : IsByRisingObject cleared.writes) where
+        -- only the vertex was written, which is no object of the index
+        index_then : (store : Contents) (g : Graph) (is : Represents old.shape (overlay store old.writes) g) → Agrees cleared.reads store → IsIndexed old.shape (overlay store cleared.writes) (tagged g)
+        index_then store g is agrees =
+            let was = represents_indexed old.shape (overlay store old.writes) g is ranges in
+            record {
+              rising = was.rising;
+              each = was.each;
+              slots = λ place slot. sym (same place slot) ∙ was.slots place slot;
+              within = λ place slot. subst (λ (ws : List ℕ). length ws ≤ most_words) (same place slot) (was.within place slot);
+            }
+          where
+            left : (place : Place) → IsSlot old.shape place → words_at old.writes place ≡ words_at cleared.writes place
+            left place slot = elim (clearing.writes place) [
+              | inl it ↦ absurd ((place_here ranges is id (leads store g is agrees)).unreserved (subst (λ (p : Place). IsReserved old.shape p.block) it slot.block.1))
+              | inr later ↦ sym (later ∙ ap (λ (c : Contents). words_at c place) looks.writes)
+            ]
+
+            same : (place : Place) → IsSlot old.shape place → IsSameAt (overlay store old.writes) (overlay store cleared.writes) place
+            same place slot =
+                content-overlay store old.writes place ordered ∙ (ap (λ o. put_over o (content_of store place)) (left place slot) ∙ sym (content-overlay store cleared.writes place ordered_cleared))
+
+        has_entry : (store : Contents) (g : Graph) (is : Represents old.shape (overlay store old.writes) g) → Agrees cleared.reads store → reply ≡ Done → IsSome (entry_for (tagged g) (n, id))
+        has_entry store g is agrees done =
+            let less = (found_there (bytes_eq name) g.labels n (number_is store g is agrees)).0 in
+            let zero_more : 0 + n ≡ n = omega arith in
+            let among : is_among 0 (length g.labels) n ≡ true = ap (is_among 0 (length g.labels)) (sym zero_more) ∙ is_among_all 0 (length g.labels) n less in
+            let labelled = ap (λ o. option_map_or (λ (vertex : Vertex). has vertex.labels n) o false) (there store g is agrees) ∙ had_label store g is agrees done in
+            ap is_some (entry_for-tagged g (n, id) is.well_formed.vertices) ∙ λ i. is_some (cond (among i && labelled i) (Some (record { label = n; id = id })) None)
+
+      pub still_indexed : reply ≡ Done → Knows Stands old → IsByRisingObject cleared.writes → Knows (Has (n, id)) cleared
+      still_indexed done knows ordered_cleared = knows_after (stays-then looks.stays clearing.stays) ordered_cleared (λ store may agrees.
+          let stands = knows.always store may in
+          record {
+            entries = tagged stands.graph;
+            indexed = index_then knows.ordered ordered_cleared store stands.graph stands.represents agrees;
+            present = has_entry knows.ordered ordered_cleared store stands.graph stands.represents agrees done;
+          })
+
+      -- ---- the label is gone
+
+      module _ {new : StoreState Noted} (removes : Removes (n, id) cleared new) (removing : Reaches (IsSlotFor (n, id) cleared.shape) (λ _. ⊥) cleared new) (done : reply ≡ Done)
+          (ordered : IsByRisingObject old.writes) (ordered_cleared : IsByRisingObject cleared.writes) (ordered_new : IsByRisingObject new.writes) where
+        shape_cleared : cleared.shape ≡ old.shape
+        shape_cleared = clearing.stays.shape ∙ looks.stays.shape
+
+        abbrev slot : Place
+        slot = slot_of old.shape n id
+
+        same_slot : (place : Place) → place ≡ slot_for cleared.shape (n, id) → place ≡ slot
+        same_slot place here = here ∙ ap (λ (shape : Shape). slot_of shape n id) shape_cleared
+
+        is_slot : IsSlot old.shape slot
+        is_slot = slot_is old.shape (n, id) ranges
+
+        written : (place : Place) → (place ≡ slot) ⊎ (place ≡ object) ⊎ (words_at new.writes place ≡ words_at old.writes place)
+        written place = elim (removing.writes place) [
+          | inl here ↦ inl (same_slot place here)
+          | inr later ↦ elim (clearing.writes place) [ inl it ↦ inr (inl it) | inr earlier ↦ inr (inr (later ∙ (earlier ∙ ap (λ (c : Contents). words_at c place) looks.writes))) ]
+        ]
+
+        module _ (store : Contents) (g : Graph) (is : Represents old.shape (overlay store old.writes) g) (agrees : Agrees new.reads store) where
+          agrees_cleared : Agrees cleared.reads store
+          agrees_cleared = agrees_before removing.stays store agrees
+
+          abbrev was : Vertex
+          was = (vertex_here ranges is id (leads store g is agrees_cleared)).0
+
+          abbrev h : Graph
+          h = with_vertex g id (without_label n (vertex_here ranges is id (leads store g is agrees_cleared)).0)
+
+          free : IsUnreserved old.shape (home_of old.shape id) object
+          free = place_here ranges is id (leads store g is agrees_cleared)
+
+          off_slot : object ≢ slot
+          off_slot here = free.unreserved (subst (λ (p : Place). IsReserved old.shape p.block) (sym here) is_slot.block.1)
+
+          here : object_of is.vertices id ≡ object
+          here = object_here ranges is id (leads store g is agrees_cleared)
+
+          same_at_object : content_of (overlay store cleared.writes) object ≡ content_of (overlay store new.writes) object
+          same_at_object =
+              content-overlay store cleared.writes object ordered_cleared
+              ∙ (ap (λ o. put_over o (content_of store object)) (left (removing.writes object)) ∙ sym (content-overlay store new.writes object ordered_new))
+            where
+              left : (object ≡ slot_for cleared.shape (n, id)) ⊎ (words_at new.writes object ≡ words_at cleared.writes object) → words_at cleared.writes object ≡ words_at new.writes object
+              left (inl at_slot) = absurd (off_slot (same_slot object at_slot))
+              left (inr later) = sym later
+
+          now : HoldsVertex object (overlay store cleared.writes) (held_with ranges is id (leads store g is agrees_cleared) (without_label n (vertex_here ranges is id (leads store g is agrees_cleared)).0))
+          now = subst (λ b. IfMade (HoldsVertex object (overlay store cleared.writes)) (cond b (Made (held_with ranges is id (leads store g is agrees_cleared) (without_label n (vertex_here ranges is id (leads store g is agrees_cleared)).0))) (Refused LacksLabel)))
+              (had_label store g is agrees_cleared done)
+              (changes.changed done store (held_then store g is agrees_cleared) agrees_cleared (holds_then store g is agrees_cleared))
+
+          indexed : IsIndexed old.shape (overlay store new.writes) (without_pair (n, id) (tagged g))
+          indexed = subst (λ (shape : Shape). IsIndexed shape (overlay store new.writes) (without_pair (n, id) (tagged g))) shape_cleared
+              (removes.removed store (tagged g) agrees
+              (subst (λ (shape : Shape). IsIndexed shape (overlay store cleared.writes) (tagged g)) (sym shape_cleared) (index_then ordered ordered_cleared store g is agrees_cleared)))
+
+          spelled : content_of (overlay store new.writes) (object_of is.vertices id) ≡ vertex_words (holder_of h is.vertices is.edges id (without_label n (vertex_here ranges is id (leads store g is agrees_cleared)).0))
+          spelled = ap (content_of (overlay store new.writes)) here ∙ (sym same_at_object ∙ now.words)
+
+          few : length (content_of (overlay store new.writes) (object_of is.vertices id)) ≤ most_words
+          few = subst (λ (ws : List ℕ). length ws ≤ most_words) (same_at_object ∙ sym (ap (content_of (overlay store new.writes)) here)) now.within
+
+          same : (place : Place) → place ≢ slot → place ≢ object_of is.vertices id → IsSameAt (overlay store old.writes) (overlay store new.writes) place
+          same place apart off =
+              content-overlay store old.writes place ordered ∙ (ap (λ o. put_over o (content_of store place)) (left (written place)) ∙ sym (content-overlay store new.writes place ordered_new))
+            where
+              left : (place ≡ slot) ⊎ (place ≡ object) ⊎ (words_at new.writes place ≡ words_at old.writes place) → words_at old.writes place ≡ words_at new.writes place
+              left (inl at_slot) = absurd (apart at_slot)
+              left (inr (inl it)) = absurd (off (it ∙ sym here))
+              left (inr (inr later)) = sym later
+
+          was_there : (thing : Object) (rank : ℕ) → IsOn old.shape h rank thing → is_object g thing ≡ true
+          was_there (Reserved block) rank on = refl
+          was_there (OfVertex q) rank on = cases (q == id) refl
+            where
+              cases : (b : Bool) → (q == id) ≡ b → is_vertex g q ≡ true
+              cases true is_id = let same_id : q ≡ id = grind (arith, nat_tests, is_id) in ap (is_vertex g) same_id ∙ ap is_some (there store g is agrees_cleared)
+              cases false apart = sym (ap is_some (found_elsewhere g.vertices id (without_label n (vertex_here ranges is id (leads store g is agrees_cleared)).0) q (λ same_id. grind (arith, nat_tests, apart, same_id)))) ∙ on.1
+          was_there (OfHeavyEdge source ordinal) rank on = on.1
+
+          untag_did : DoesCall old.shape (Untag id name) Done store old.writes new.writes g is
+          untag_did =
+              let before_words = holds_here ranges is id (leads store g is agrees_cleared) in
+              let end = done_ends store g is agrees_cleared done in
+              does_to is h is.vertices is.edges end.0 end.1 (well.untag g id n (vertex_here ranges is id (leads store g is agrees_cleared)).0 is.well_formed (there store g is agrees_cleared))
+              (labels_represented old.shape (overlay store old.writes) (overlay store new.writes) g is ranges id n (vertex_here ranges is id (leads store g is agrees_cleared)).0
+              (without_label n (vertex_here ranges is id (leads store g is agrees_cleared)).0) (there store g is agrees_cleared)
+              (well.untag g id n (vertex_here ranges is id (leads store g is agrees_cleared)).0 is.well_formed (there store g is agrees_cleared))
+              (without_pair (n, id) (tagged g))
+              (index_untagged g id n (vertex_here ranges is id (leads store g is agrees_cleared)).0 (without_label n (vertex_here ranges is id (leads store g is agrees_cleared)).0) (there store g is agrees_cleared) is.well_formed.vertices
+              (λ m. has-take_out n (vertex_here ranges is id (leads store g is agrees_cleared)).0.labels m))
+              (λ place apart. other_without_entry old.shape (tagged g) (n, id) place apart) indexed spelled few same)
+              (λ rank thing on. stays_there store (was_there thing rank on) refl)
+              (λ rank _. made_as_before old.shape store old.writes new.writes rank ordered ordered_new
+              (λ place. elim (written place) [
+                | inl at_slot ↦ inl (subst (λ (p : Place). IsReserved old.shape p.block) (sym at_slot) is_slot.block.1)
+                | inr (inl it) ↦ inr (inr (
+                  λ none. some_words _ (sym before_words.words ∙ (ap (content_of (overlay store old.writes)) (sym it) ∙ none)),
+                  λ none. some_words _ (sym now.words ∙ (same_at_object ∙ (ap (content_of (overlay store new.writes)) (sym it) ∙ none))),
+                ))
+                | inr (inr later) ↦ inr (inl later)
+              ])
+              ∙ makes_no_more old.shape g (Untag id name) rank (made_objects old.shape store old.writes rank) refl)
+
+        slot_reached : (g : Graph) {contents : Contents} {k : Graph} (is : Represents old.shape contents k) (place : Place) → place ≡ slot → IsReached old.shape g (Untag id name) is.vertices is.edges place
+        slot_reached g is place at_slot = record {
+          rank = slot.rank;
+          object = Reserved slot.block;
+          on = inl (is_slot.rank, is_slot.block.1);
+          here = sym at_slot;
+          near = inr (inl is_slot.block.0);
+        }
+
+        pub untagged_applied : AppliesCall (Untag id name) old new Done
+        untagged_applied = record {
+          did = untag_did;
+          reads = λ store g is agrees place. elim (removing.reads place) [
+            | inl at_slot ↦ inr (inl (slot_reached g is place (same_slot place at_slot)))
+            | inr later ↦ elim (read_vertex store g is (agrees_before removing.stays store agrees) place) [ inl there_too ↦ inr (inl there_too) | inr earlier ↦ inr (inr (later ∙ earlier)) ]
+          ];
+          writes = λ store g is agrees place. elim (written place) [
+            | inl at_slot ↦ inr (inl (slot_reached g is place at_slot))
+            | inr (inl it) ↦ inr (inl (reached store g is (agrees_before removing.stays store agrees) place it))
+            | inr (inr later) ↦ inr (inr later)
+          ];
+          room = λ most told g is rank makes. absurd (nowhere rank makes);
+        }
+          where
+            nowhere : (rank : ℕ) → None ≡ Some rank → ⊥
+            nowhere rank never = cc
