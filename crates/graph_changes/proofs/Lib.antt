@@ -1,2 +1,5 @@
 pub mod NewVertex
 pub mod MakesVertex
+pub mod Temp
+pub mod Labelled
+pub mod Untagging

@@ -127,6 +127,14 @@ knows_vertex {id} {object} {state} ranges knows leads = record {
   ordered = knows.ordered;
 }
 
+pub knows_names : {N : Type 0} {state : StoreState N} → Knows Stands state → meta.KnowsNames any state
+knows_names {N} {state} knows = record {
+  always = λ store may.
+      let stands = knows.always store may in
+      record { part = names_of stands.graph; has = represents_names state.shape (overlay store state.writes) stands.graph stands.represents; passed = refl };
+  ordered = knows.ordered;
+}
+
 -- ---- the label is looked up
 
 lacks_apart : LacksLabel ≡ Done → ⊥

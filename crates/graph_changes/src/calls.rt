@@ -1,1 +1,2 @@
 pub(crate) mod make_vertex;
+pub(crate) mod untag_vertex;

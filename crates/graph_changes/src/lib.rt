@@ -4,3 +4,4 @@
 mod calls;
 
 pub use calls::make_vertex::make_vertex;
+pub use calls::untag_vertex::untag_vertex;
