@@ -72,14 +72,14 @@ found_here m k x = find-put nat_cmp nat_cmp_total k k x m ∙ ap (λ b. cond b (
 untied : (q k : ℕ) → q ≢ k → eq_by_cmp nat_cmp q k ≡ false
 untied q k apart = grind (arith, nat_tests, apart)
 
-pub found_elsewhere : {X : Type 0} (m : Map ℕ X) (k : ℕ) (x : X) (q : ℕ) → q ≢ k → at (with_at m k x) q ≡ at m q
+found_elsewhere : {X : Type 0} (m : Map ℕ X) (k : ℕ) (x : X) (q : ℕ) → q ≢ k → at (with_at m k x) q ≡ at m q
 found_elsewhere m k x q apart = find-put nat_cmp nat_cmp_total q k x m ∙ ap (λ b. cond b (Some x) (at m q)) (untied q k apart)
 
 apart_test : (n k : ℕ) → n ≢ k → (n == k) ≡ false
 apart_test n k apart = grind (arith, nat_tests, apart)
 
 -- a place is another or isn't
-pub is_or_isnt : (one other : Place) → (one ≡ other) ⊎ (one ≢ other)
+is_or_isnt : (one other : Place) → (one ≡ other) ⊎ (one ≢ other)
 is_or_isnt one other = cases (eq_by_cmp place_cmp one other) refl
   where
     cases : (tie : Bool) → eq_by_cmp place_cmp one other ≡ tie → (one ≡ other) ⊎ (one ≢ other)

@@ -1,2 +1,1 @@
 pub(crate) mod make_vertex;
-pub(crate) mod untag_vertex;

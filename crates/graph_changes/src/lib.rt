@@ -4,4 +4,3 @@
 mod calls;
 
 pub use calls::make_vertex::make_vertex;
-pub use calls::untag_vertex::untag_vertex;
