@@ -167,6 +167,9 @@ module _ {N : Type 0} (shape : Shape) (home : ℕ) (before after : RankModel N) 
   room_by block is = subst (Counts (used_blocks shape home before.view) shape.blocks) is counts
 
   -- why none was
+  pub empty_before : (head : ℕ) → answer ≡ Err (pool.Empty head) → used_blocks shape home before.view ≡ shape.blocks
+  empty_before head is = subst (Counts (used_blocks shape home before.view) shape.blocks) is counts
+
   pub empty_by : (head : ℕ) → answer ≡ Err (pool.Empty head) → after.view.private ≡ before.view.private
       → used_blocks shape home after.view ≡ shape.blocks
   empty_by head is own =

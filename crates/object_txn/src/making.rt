@@ -49,8 +49,7 @@ pub(crate) fn make<L: Law>(
     ensures alone { OwnsTaken window.now.shape rank.old txn.old.taken.items → OwnsTaken window.now.shape rank.new txn.new.taken.items }
     ensures room { OwnsTaken window.now.shape rank.old txn.old.taken.items
         → OnOk result (used_blocks window.now.shape home rank.old.view < window.now.shape.blocks) }
-    ensures full { OwnsTaken window.now.shape rank.old txn.old.taken.items
-        → IfErr result (λ why. named_by why ≡ names_rank home → used_blocks window.now.shape home rank.old.view ≡ window.now.shape.blocks) }
+    ensures full { OwnsTaken window.now.shape rank.old txn.old.taken.items → IfErr result (IsFull window.now.shape home rank.old.view) }
     ensures first { txn.new.first ≡ txn.old.first }
     ensures gains { IfOk result (λ made. txn.new.taken.items ≡ txn.old.taken.items ++ made ∷ []) }
     ensures makes { IfOk result (λ made. Makes window.now.shape home rank.new.view txn.old txn.new made) }
@@ -83,11 +82,11 @@ pub(crate) fn take_one<L: Law>(
     ensures taken { HasTaken window.now.shape rank.new.view.private rank.new.spares taken.new.items }
     ensures noted { IfOk result (λ block. Takes window.now.shape home block rank.new.view taken.old.items taken.new.items) }
     ensures unnoted { OnErr result (taken.new.items ≡ taken.old.items) }
-    ensures unmoved { OnErr result (rank.new.view.private ≡ rank.old.view.private) }
     ensures owns { OwnsNoted rank.old.view rank.new.view taken.old.items taken.new.items }
     ensures alone { OwnsTaken window.now.shape rank.old taken.old.items → OwnsTaken window.now.shape rank.new taken.new.items }
     ensures room { OwnsTaken window.now.shape rank.old taken.old.items
         → OnOk result (used_blocks window.now.shape home rank.old.view < window.now.shape.blocks) }
+    ensures none { OwnsTaken window.now.shape rank.old taken.old.items → IfErr result (IsFull window.now.shape home rank.old.view) }
     ensures full { OwnsTaken window.now.shape rank.old taken.old.items → IfErr result (IsFull window.now.shape home rank.new.view) }
     ensures only { OnlyTaken rank.old.view rank.new.view }
     ensures names { IfErr result (λ why. NamesRank home (named_by why)) }

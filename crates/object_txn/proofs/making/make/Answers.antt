@@ -1,11 +1,8 @@
-use Rattle.std.proofs.Common.{◌≢◌, refl, sym, ap, ◌∙◌, subst, arith, [], List, Some}
+use Rattle.std.proofs.Common.{◌≢◌, refl, sym, ap, ◌∙◌, subst, arith, inl, inr, [], List, Some}
 use Rattle.rma_layout.specs.Placement.{Place}
 use Rattle.object_words.specs.Contents.{Contents, with_words}
 use Rattle.window_rule.specs.View.{Known, Locks, OwnBlock, View}
-use Rattle.object_words.specs.Blocks.{contents_use}
-use Rattle.object_words.specs.Entries.{store_after}
 use Rattle.window_rule.specs.Partition.{places_of, times}
-use Rattle.window_rule.specs.RoomHolds.{count_on}
 use Rattle.window_rule.specs.ContentsHold.{Lasts}
 use Rattle.window_rule.specs.Locks.{hold_of}
 use Rattle.object_store.specs.declared.phase.Phase.TheVariants.{Idle}
@@ -185,11 +182,8 @@ returns-clause-alone g c = λ was.
     (ap (λ (v : View g.row.L-Note.Denot). v.private) c.mark.ensures.locked.view) (ap (λ (v : View g.row.L-Note.Denot). v.bounds) c.mark.ensures.locked.view)
     (c.take_one.ensures.alone was))
 
-pub returns-in_err-at-clause-full : goal.returns-in_err-at-clause-full
-returns-in_err-at-clause-full g c = λ was named.
-    omega (
-      arith,
-      c.in_err-at.ensures.full was named,
-      ap (λ (v : View g.row.L-Note.Denot). contents_use c.args.window.now.shape (store_after v.seen) c.args.home) c.take_one.ensures.only,
-      ap (λ (o : List OwnBlock). count_on c.args.home (places_of o)) c.in_err-at.ensures.unmoved,
-    )
+pub returns-in-Err-clause-full : goal.returns-in-Err-clause-full
+returns-in-Err-clause-full g c = λ was named. absurd (elim c.in-Err.ensures.names [
+  | inl nothing ↦ cc (sym nothing ∙ named)
+  | inr object ↦ cc (sym object ∙ named)
+])

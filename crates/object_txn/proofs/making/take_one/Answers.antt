@@ -5,7 +5,7 @@ use Rattle.window_rule.specs.Pool.{MayBeFree}
 use Rattle.window_rule.specs.Spares.{HasSpares, IsNoSpare}
 use Rattle.block_pool.specs.Takes.{Refuses}
 use Rattle.block_pool.specs.Alone.{exchanges}
-use Rattle.object_txn.proofs.AloneFacts.{empty_by, few_on, never_worn, owns_none, owns_one, owns_still, room_by}
+use Rattle.object_txn.proofs.AloneFacts.{empty_before, empty_by, few_on, never_worn, owns_none, owns_one, owns_still, room_by}
 use Rattle.object_txn.proofs.MakingFacts.{explains_busy, explains_empty, explains_worn, never_busy, owns_same, owns_taken, taken_is_new, taken_more}
 use Rattle.object_txn.proofs.making.take_one.Goals as goal
 
@@ -92,8 +92,6 @@ returns-in-Err-Empty-clause-alone g c = λ was.
     (ap (λ (v : View g.row.L-Note.Denot). v.private) c.in-Err-Empty.ensures.taken.unmoved) (ap exchanges c.in-Err-Empty.is)
     c.has_room.new.taken.items c.has_room.ensures.items
 
-pub returns-in-Err-Empty-clause-unmoved : goal.returns-in-Err-Empty-clause-unmoved
-returns-in-Err-Empty-clause-unmoved g c = ap (λ (v : View g.row.L-Note.Denot). v.private) c.in-Err-Empty.ensures.taken.unmoved
 
 pub returns-in-Err-PoolBusy-clause-alone : goal.returns-in-Err-PoolBusy-clause-alone
 returns-in-Err-PoolBusy-clause-alone g c = λ was.
@@ -102,8 +100,6 @@ returns-in-Err-PoolBusy-clause-alone g c = λ was.
     (ap (λ (v : View g.row.L-Note.Denot). v.private) c.in-Err-PoolBusy.ensures.taken.unmoved) (ap exchanges c.in-Err-PoolBusy.is)
     c.has_room.new.taken.items c.has_room.ensures.items
 
-pub returns-in-Err-PoolBusy-clause-unmoved : goal.returns-in-Err-PoolBusy-clause-unmoved
-returns-in-Err-PoolBusy-clause-unmoved g c = ap (λ (v : View g.row.L-Note.Denot). v.private) c.in-Err-PoolBusy.ensures.taken.unmoved
 
 pub returns-in-Err-Worn-clause-alone : goal.returns-in-Err-Worn-clause-alone
 returns-in-Err-Worn-clause-alone g c = λ was.
@@ -112,8 +108,6 @@ returns-in-Err-Worn-clause-alone g c = λ was.
     (ap (λ (v : View g.row.L-Note.Denot). v.private) c.in-Err-Worn.ensures.taken.unmoved) (ap exchanges c.in-Err-Worn.is)
     c.has_room.new.taken.items c.has_room.ensures.items
 
-pub returns-in-Err-Worn-clause-unmoved : goal.returns-in-Err-Worn-clause-unmoved
-returns-in-Err-Worn-clause-unmoved g c = ap (λ (v : View g.row.L-Note.Denot). v.private) c.in-Err-Worn.ensures.taken.unmoved
 
 pub returns-in-Err-Empty-clause-full : goal.returns-in-Err-Empty-clause-full
 returns-in-Err-Empty-clause-full g c = λ was _.
@@ -136,3 +130,20 @@ returns-in-Err-Worn-clause-full g c = λ was _.
       c.keeps_ranges.ensures.blocks,
       ap (λ s. s.blocks) c.geometry.ensures,
     )))
+
+pub returns-in-Err-Empty-clause-none : goal.returns-in-Err-Empty-clause-none
+returns-in-Err-Empty-clause-none g c = λ was _.
+    empty_before c.args.window.now.shape c.args.home c.args.rank.now c.take.new.rank c.args.taken.now.items was c.take.ensures.follows c.take.ensures.only
+    c.take.result (c.take.ensures.alone was.alone) c.in-Err-Empty.head (c.in-Err-Empty.is ∙ ap Err c.in-Err-Empty.field-0-is)
+
+pub returns-in-Err-PoolBusy-clause-none : goal.returns-in-Err-PoolBusy-clause-none
+returns-in-Err-PoolBusy-clause-none g c = λ was _.
+    absurd (never_busy c.take.result _ c.in-Err-PoolBusy.loaded c.in-Err-PoolBusy.seen c.in-Err-PoolBusy.is c.in-Err-PoolBusy.field-0-is
+    (c.take.ensures.alone was.alone).idle)
+
+pub returns-in-Err-Worn-clause-none : goal.returns-in-Err-Worn-clause-none
+returns-in-Err-Worn-clause-none g c = λ was _.
+    absurd (never_worn c.args.window.now.shape c.args.home c.args.rank.now c.take.new.rank c.args.taken.now.items was c.take.ensures.follows c.take.ensures.only
+    c.take.result (c.take.ensures.alone was.alone) c.in-Err-Worn.head (c.in-Err-Worn.is ∙ ap Err c.in-Err-Worn.field-0-is) c.requires.home
+    (omega (arith, few_on c.args.window.now.shape c.args.home c.args.taken.now.items c.requires.taken.once c.requires.taken.blocks,
+    c.keeps_ranges.ensures.blocks, ap (λ s. s.blocks) c.geometry.ensures)))

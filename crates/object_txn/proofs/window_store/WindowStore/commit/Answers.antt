@@ -24,51 +24,51 @@ pub returns-in-Err-clause-explained : goal.returns-in-Err-clause-explained
 returns-in-Err-clause-explained g c =
     let self = c.args.self.now in
     explains_later self.window.now.shape self.rank.view c.plan_writes.new.rank.view c.end_all.new.rank.view c.in-Err.why
-    (follows_trans c.plan_writes.new.rank.view c.place-_place.new.self.view c.end_all.new.rank.view c.place-_place.ensures.follows c.end_all.ensures.follows)
+    (follows_trans c.plan_writes.new.rank.view c.place-place.new.self.view c.end_all.new.rank.view c.place-place.ensures.follows c.end_all.ensures.follows)
     c.in-Err.ensures.refused
 
 pub returns-in-Err-clause-keeps : goal.returns-in-Err-clause-keeps
 returns-in-Err-clause-keeps g c =
     let self = c.args.self.now in
     continues g.L.Law.fits self.window.now self.opened.value self.rank c.end_all.new.rank self.txn c.end_all.new.txn
-    (follows_trans self.rank.view c.place-_place.new.self.view c.end_all.new.rank.view
-    (follows_trans self.rank.view c.plan_writes.new.rank.view c.place-_place.new.self.view c.plan_writes.ensures.follows c.place-_place.ensures.follows) c.end_all.ensures.follows)
+    (follows_trans self.rank.view c.place-place.new.self.view c.end_all.new.rank.view
+    (follows_trans self.rank.view c.plan_writes.new.rank.view c.place-place.new.self.view c.plan_writes.ensures.follows c.place-place.ensures.follows) c.end_all.ensures.follows)
     (firm_clean g.L.Law.fits self.window.now.shape self.opened.value self.rank c.end_all.new.rank self.txn self.counts
-    (follows_trans self.rank.view c.place-_place.new.self.view c.end_all.new.rank.view
-    (follows_trans self.rank.view c.plan_writes.new.rank.view c.place-_place.new.self.view c.plan_writes.ensures.follows c.place-_place.ensures.follows) c.end_all.ensures.follows) c.end_all.ensures.truths
-    (λ was. let owns = owns_placed g.L.Law.fits self.window.now self.rank c.plan_writes.new.rank c.place-_place.new.self self.txn c.plan_writes.new.txn c.place-_place.ensures.view.history was
-    c.plan_writes.ensures.follows c.place-_place.ensures.follows (c.plan_writes.ensures.alone was.owns) c.plan_writes.ensures.tied.taken
-    c.place-_place.ensures.view.view c.place-_place.ensures.spares in ap has_no_spare (c.end_all.ensures.alone owns) ∙ owns.spares))
+    (follows_trans self.rank.view c.place-place.new.self.view c.end_all.new.rank.view
+    (follows_trans self.rank.view c.plan_writes.new.rank.view c.place-place.new.self.view c.plan_writes.ensures.follows c.place-place.ensures.follows) c.end_all.ensures.follows) c.end_all.ensures.truths
+    (λ was. let owns = owns_placed g.L.Law.fits self.window.now self.rank c.plan_writes.new.rank c.place-place.new.self self.txn c.plan_writes.new.txn c.place-place.ensures.view.history was
+    c.plan_writes.ensures.follows c.place-place.ensures.follows (c.plan_writes.ensures.alone was.owns) c.plan_writes.ensures.tied.taken
+    c.place-place.ensures.view.view c.place-place.ensures.spares in ap has_no_spare (c.end_all.ensures.alone owns) ∙ owns.spares))
     c.end_all.ensures.truths c.end_all.ensures.tied (λ quiet. absurd (quiet c.requires.begun))
 
 pub returns-in-Err-clause-recalls : goal.returns-in-Err-clause-recalls
 returns-in-Err-clause-recalls g c =
     let self = c.args.self.now in
     recalls_by self.rank.view c.end_all.new.rank.view
-    (follows_trans self.rank.view c.place-_place.new.self.view c.end_all.new.rank.view
-    (follows_trans self.rank.view c.plan_writes.new.rank.view c.place-_place.new.self.view c.plan_writes.ensures.follows c.place-_place.ensures.follows) c.end_all.ensures.follows)
+    (follows_trans self.rank.view c.place-place.new.self.view c.end_all.new.rank.view
+    (follows_trans self.rank.view c.plan_writes.new.rank.view c.place-place.new.self.view c.plan_writes.ensures.follows c.place-place.ensures.follows) c.end_all.ensures.follows)
 
 pub returns-in-Err-clause-refused : goal.returns-in-Err-clause-refused
 returns-in-Err-clause-refused g c =
     let self = c.args.self.now in
     let names = c.in-Err.ensures.names in
     refuses_commit g.L.Law.fits self.window.now self.opened.value self.rank c.end_all.new.rank self.txn c.end_all.new.txn
-    (follows_trans self.rank.view c.place-_place.new.self.view c.end_all.new.rank.view
-    (follows_trans self.rank.view c.plan_writes.new.rank.view c.place-_place.new.self.view c.plan_writes.ensures.follows c.place-_place.ensures.follows) c.end_all.ensures.follows)
+    (follows_trans self.rank.view c.place-place.new.self.view c.end_all.new.rank.view
+    (follows_trans self.rank.view c.plan_writes.new.rank.view c.place-place.new.self.view c.plan_writes.ensures.follows c.place-place.ensures.follows) c.end_all.ensures.follows)
     (firm_clean g.L.Law.fits self.window.now.shape self.opened.value self.rank c.end_all.new.rank self.txn self.counts
-    (follows_trans self.rank.view c.place-_place.new.self.view c.end_all.new.rank.view
-    (follows_trans self.rank.view c.plan_writes.new.rank.view c.place-_place.new.self.view c.plan_writes.ensures.follows c.place-_place.ensures.follows) c.end_all.ensures.follows) c.end_all.ensures.truths
-    (λ was. let owns = owns_placed g.L.Law.fits self.window.now self.rank c.plan_writes.new.rank c.place-_place.new.self self.txn c.plan_writes.new.txn c.place-_place.ensures.view.history was
-    c.plan_writes.ensures.follows c.place-_place.ensures.follows (c.plan_writes.ensures.alone was.owns) c.plan_writes.ensures.tied.taken
-    c.place-_place.ensures.view.view c.place-_place.ensures.spares in ap has_no_spare (c.end_all.ensures.alone owns) ∙ owns.spares))
+    (follows_trans self.rank.view c.place-place.new.self.view c.end_all.new.rank.view
+    (follows_trans self.rank.view c.plan_writes.new.rank.view c.place-place.new.self.view c.plan_writes.ensures.follows c.place-place.ensures.follows) c.end_all.ensures.follows) c.end_all.ensures.truths
+    (λ was. let owns = owns_placed g.L.Law.fits self.window.now self.rank c.plan_writes.new.rank c.place-place.new.self self.txn c.plan_writes.new.txn c.place-place.ensures.view.history was
+    c.plan_writes.ensures.follows c.place-place.ensures.follows (c.plan_writes.ensures.alone was.owns) c.plan_writes.ensures.tied.taken
+    c.place-place.ensures.view.view c.place-place.ensures.spares in ap has_no_spare (c.end_all.ensures.alone owns) ∙ owns.spares))
     names.0 c.in-Err.why names.1 c.end_all.ensures.ended
     (λ told. returns-in-Err-clause-alone g c (counts_told self.window.now.shape self.opened.value self.rank self.txn self.counts told).owns.alone)
     (λ told home named.
     let was = counts_told self.window.now.shape self.opened.value self.rank self.txn self.counts told in
-    stops_refused g.L.Law.fits self.window.now self.rank c.plan_writes.new.rank c.place-_place.new.self self.txn c.plan_writes.new.txn c.place-_place.ensures.view.history was
-    c.plan_writes.ensures.follows c.place-_place.ensures.follows (c.plan_writes.ensures.alone was.owns) c.plan_writes.ensures.tied.taken
-    c.place-_place.ensures.view.view c.place-_place.ensures.spares
-    c.place-_place.ensures.truths self.tied Commit c.place-_place.result c.place-_place.ensures.lawful
+    stops_refused g.L.Law.fits self.window.now self.rank c.plan_writes.new.rank c.place-place.new.self self.txn c.plan_writes.new.txn c.place-place.ensures.view.history was
+    c.plan_writes.ensures.follows c.place-place.ensures.follows (c.plan_writes.ensures.alone was.owns) c.plan_writes.ensures.tied.taken
+    c.place-place.ensures.view.view c.place-place.ensures.spares
+    c.place-place.ensures.truths self.tied Commit c.place-place.result c.place-place.ensures.lawful
     (subst IsInRange c.geometry.ensures c.keeps_ranges.ensures)
     home (c.in-Err.ensures.stops was.owns home named))
 
