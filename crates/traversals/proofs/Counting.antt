@@ -75,6 +75,9 @@ steps-few (e ∷ es) = elim e.undirected as (λ u. length ((if u then both_ways 
 pub few-counted : (p : ℕ × ℕ → Bool) (es : List FlatEdge) (i : ℕ) → count_by p (flat_map steps_by (take i es)) ≤ 2 * i
 few-counted p es i = omega (arith, count_by-le-length p (flat_map steps_by (take i es)), steps-few (take i es), length-take i es)
 
+pub few-steps : (p : ℕ × ℕ → Bool) (es : List FlatEdge) → count_by p (flat_map steps_by es) ≤ 2 * length es
+few-steps p es = omega (arith, count_by-le-length p (flat_map steps_by es), steps-few es)
+
 -- places and identifiers are the same where identifiers rise
 pub same-place : (ids : List ℕ) → Rises ids → (place k : ℕ) → place < length ids → k < length ids → (place == k) ≡ (get_or ids place 0 == get_or ids k 0)
 same-place ids rises place k here there =
@@ -111,3 +114,8 @@ mapped f (i ∷ is) [] same each = absurd (omega (arith, same))
 mapped f (i ∷ is) (n ∷ ns) same each =
     let rest : length ns ≡ length is = omega (arith, same) in
     ap (λ m. m ∷ ns) (each zero (omega arith)) ∙ ap (λ ms. f i ∷ ms) (mapped f is ns rest (λ k below. each (suc k) (omega (arith, below))))
+
+pub mapped-below : (f : ℕ → ℕ) (ids : List ℕ) (bound : ℕ) → 0 < bound → ((id : ℕ) → f id < bound) → (k : ℕ) → get_or (map f ids) k 0 < bound
+mapped-below f [] bound some below k = some
+mapped-below f (i ∷ is) bound some below zero = below i
+mapped-below f (i ∷ is) bound some below (suc k) = mapped-below f is bound some below k

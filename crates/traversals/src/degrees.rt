@@ -15,6 +15,7 @@ pub(crate) fn out_degrees(
     places: &Places,
     edges: &[FlatEdge],
 ) -> Result<NumList, NoMemory>
+    requires { length edges.now < 2 ^ 31 }
     ensures { IfOk result (λ degrees. degrees ≡ map (from_count (flat_map steps_by edges.now)) places.now) }
 {
     let mut degrees = vec![in alloc; 0u64; places.len()]?;
@@ -36,6 +37,7 @@ pub(crate) fn in_degrees(
     places: &Places,
     edges: &[FlatEdge],
 ) -> Result<NumList, NoMemory>
+    requires { length edges.now < 2 ^ 31 }
     ensures { IfOk result (λ degrees. degrees ≡ map (to_count (flat_map steps_by edges.now)) places.now) }
 {
     let mut degrees = vec![in alloc; 0u64; places.len()]?;

@@ -1,4 +1,4 @@
-ghost use Rattle.std.specs.Prelude.{◌≡◌, ◌<◌, Some, length, map, slice_get, IfOk};
+ghost use Rattle.std.specs.Prelude.{◌≡◌, ◌<◌, ◌^◌, Some, length, map, slice_get, IfOk};
 ghost use Rattle.std.specs.List.{AllByRecursion, flat_map};
 ghost use Rattle.graph_model.specs.Graph.{Graph};
 ghost use Rattle.graph_model.specs.Maps.{IsSet, keys};
@@ -33,7 +33,7 @@ pub struct FlatGraph {
 }
 
 impl Model for FlatGraph {
-    ghost use Rattle.std.specs.Prelude.{◌≡◌, length};
+    ghost use Rattle.std.specs.Prelude.{◌≡◌, ℕ, ◌<◌, ◌^◌, length, slice_index};
     ghost use Rattle.graph_walks.specs.Steps.{IsTwoWay, steps_of};
     ghost use Rattle.traversals.specs.Outline.{Outline};
 
@@ -41,12 +41,12 @@ impl Model for FlatGraph {
 
     ghost view = { λ flat. record { names = flat.names; ids = flat.steps.ids; labels = flat.labels; props = flat.props; steps = steps_of flat.steps; joining = steps_of flat.joining; out = flat.out; inn = flat.inn; arcs = flat.edges } };
 
-    ghost invariant = { λ flat. (flat.joining.ids ≡ flat.steps.ids) × IsTwoWay (steps_of flat.joining) × (length flat.labels ≡ length flat.steps.ids) × (length flat.props ≡ length flat.steps.ids) × (length flat.out ≡ length flat.steps.ids) × (length flat.inn ≡ length flat.steps.ids) };
+    ghost invariant = { λ flat. (flat.joining.ids ≡ flat.steps.ids) × IsTwoWay (steps_of flat.joining) × (length flat.labels ≡ length flat.steps.ids) × (length flat.props ≡ length flat.steps.ids) × (length flat.out ≡ length flat.steps.ids) × (length flat.inn ≡ length flat.steps.ids) × ((k : ℕ) → slice_index flat.out k < 2 ^ 32) × ((k : ℕ) → slice_index flat.inn k < 2 ^ 32) };
 }
 
 impl FlatGraph {
     /// The graph of these names, of these vertices, whose identifiers rise, each with its labels and its properties, and of
-    /// these edges between them, in any order.
+    /// these edges between them, in any order. 2^31 edges are too many for the memory that is kept.
     pub fn gather(
         alloc: Global,
         names: FlatNames,
@@ -70,6 +70,9 @@ impl FlatGraph {
         ensures arcs { IfOk result (λ flat. flat.arcs ≡ length edges.now) }
         ensures graph { IfOk result (λ flat. (g : Graph) → names ≡ names_in g → ids ≡ keys g.vertices → labels ≡ labels_of g.vertices → props ≡ props_of g.vertices → edges.now ≡ map line_of g.edges → IsOf g flat) }
     {
+        if edges.len() >= 2147483648 {
+            return Err(NoMemory);
+        }
         let copied = ids.copy(alloc)?;
         let steps = steps_along(alloc, Places::new(alloc, copied)?, edges)?;
         let joining = joining_along(alloc, Places::new(alloc, ids)?, edges)?;
@@ -111,7 +114,8 @@ impl FlatGraph {
     /// How many edges lead from the vertex at a place. An undirected edge counts once at each of its ends.
     pub fn out_degree(&self, place: usize) -> u64
         requires { place < length self.now.ids }
-        ensures { slice_get self.now.out place ≡ Some result }
+        ensures value { slice_get self.now.out place ≡ Some result }
+        ensures few { result < 2 ^ 32 }
     {
         *self.out.at(place)
     }
@@ -119,7 +123,8 @@ impl FlatGraph {
     /// How many edges lead to the vertex at a place. An undirected edge counts once at each of its ends.
     pub fn in_degree(&self, place: usize) -> u64
         requires { place < length self.now.ids }
-        ensures { slice_get self.now.inn place ≡ Some result }
+        ensures value { slice_get self.now.inn place ≡ Some result }
+        ensures few { result < 2 ^ 32 }
     {
         *self.inn.at(place)
     }

@@ -8,4 +8,4 @@ raise-requires-clause-within c = λ q is. omega (arith, place-within c.args.plac
 pub returns-clause-each : goal.returns-clause-each
 returns-clause-each c = λ k below.
     c.raise.ensures.each k
-    ∙ ap (λ b. get_or c.args.degrees.now.items k 0 + cond b 1 0) (place-is c.args.places.now c.len.ensures.places.rises c.args.id c.place.result c.place.ensures k below)
+    ∙ ap (λ b. get_or c.args.degrees.now.items k 0 + cond b 1 0) (place-is c.args.places.now c.len-count.ensures.places.rises c.args.id c.place.result c.place.ensures k below)

@@ -6,8 +6,8 @@ use Rattle.traversals.proofs.degrees.count_ends.Goals as goal
 pub count-requires-clause-few : goal.count-requires-clause-few
 count-requires-clause-few c = λ k below. omega (arith, c.requires.few k below)
 
-pub count-2-requires-clause-few : goal.count-2-requires-clause-few
-count-2-requires-clause-few c = λ k below.
+pub count-requires-2-clause-few : goal.count-requires-2-clause-few
+count-requires-2-clause-few c = λ k below.
     let there : k < length c.args.degrees.now.items = omega (arith, below, c.count.ensures.len) in
     omega (arith, c.requires.few k there, c.count.ensures.each k (omega (arith, there, c.requires.len)), one-at-most (c.args.one == get_or c.args.places.now k 0))
 

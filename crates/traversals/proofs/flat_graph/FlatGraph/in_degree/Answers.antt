@@ -1,0 +1,4 @@
+use Rattle.traversals.proofs.flat_graph.FlatGraph.in_degree.Goals as goal
+
+pub returns : goal.returns
+returns c = ?
