@@ -1,4 +1,4 @@
-use Rattle.std.proofs.Common.{true, ◌++◌, ◌∷◌, [], map, Option, sym, subst}
+use Rattle.std.proofs.Common.{true, ◌∷◌, [], map, sym, subst}
 use Rattle.std.specs.Option.{option_copied}
 use Rattle.rma_layout.specs.Shape.{Shape}
 use Rattle.rma_layout.specs.Placement.{Place, bucket_of, slot_of}
