@@ -1,4 +1,5 @@
 use Rattle.std.proofs.Common.{rules, ◌∙◌, inl, inr, refl, sym, subst}
+use Rattle.std.proofs.lemmas.Bool.{not-false, not-true}
 use Rattle.rma_layout.specs.Ranges.{IsInRange}
 use Rattle.gdi_kinds.specs.declared.call.Call.TheVariants.{Add}
 use Rattle.graph_law.proofs.Doing.{refuses_no_rank}
@@ -53,16 +54,16 @@ returns-then-not-is_of_kind-clause-applied g c =
     let found = subst (FindsSpot c.args.id (g.S.Store.state c.find_type.new.store) (g.S.Store.state c.find_spot.new.store)) c.in-Some-found.is c.in_ok-found.ensures.found in
     add_wrong_kind ranges c.in_ok-named.ensures.works.went.reaches typed c.in_ok-found.ensures.works.went.reaches found (sym c.is_of_kind.ensures.answer ∙ c.if-not-is_of_kind.true)
 
-pub returns-then-not-many-clause-works : goal.returns-then-not-many-clause-works
-returns-then-not-many-clause-works g c =
+pub returns-then-not-typed-clause-works : goal.returns-then-not-typed-clause-works
+returns-then-not-typed-clause-works g c =
     record { went = went_both {state = g.S.Store.state} {explains = g.S.Store.explains} c.args.id c.in_ok-named.ensures.works.went c.in_ok-found.ensures.works.went; fell = tt }
 
-pub returns-then-not-many-clause-applied : goal.returns-then-not-many-clause-applied
-returns-then-not-many-clause-applied g c =
+pub returns-then-not-typed-clause-applied : goal.returns-then-not-typed-clause-applied
+returns-then-not-typed-clause-applied g c =
     let ranges = subst IsInRange c.geometry-geometry.ensures c.keeps_ranges.ensures in
     let typed = subst (FindsType c.args.prop.now (g.S.Store.state c.args.store.now) (g.S.Store.state c.find_type.new.store)) c.in-Some.is c.in_ok-named.ensures.found in
     let found = subst (FindsSpot c.args.id (g.S.Store.state c.find_type.new.store) (g.S.Store.state c.find_spot.new.store)) c.in-Some-found.is c.in_ok-found.ensures.found in
-    add_not_many ranges c.in_ok-named.ensures.works.went.reaches typed c.in_ok-found.ensures.works.went.reaches found (sym c.is_of_kind.ensures.answer ∙ c.if-not-is_of_kind.false) c.if-not-many.true
+    add_not_many ranges c.in_ok-named.ensures.works.went.reaches typed c.in_ok-found.ensures.works.went.reaches found (sym c.is_of_kind.ensures.answer ∙ c.if-not-is_of_kind.false) (not-true c.in-Some.typed.many c.if-not-typed.true)
 
 pub add_value-requires-clause-begun : goal.add_value-requires-clause-begun
 add_value-requires-clause-begun g c =
@@ -90,7 +91,7 @@ add_value-requires-clause-kind g c =
 
 pub add_value-requires-clause-marked : goal.add_value-requires-clause-marked
 add_value-requires-clause-marked g c =
-    c.if-not-many.false
+    (not-false c.in-Some.typed.many c.if-not-typed.false)
 
 pub returns-in_err-reply-clause-works : goal.returns-in_err-reply-clause-works
 returns-in_err-reply-clause-works g c =
@@ -117,4 +118,4 @@ returns-clause-applied g c =
     let found = subst (FindsSpot c.args.id (g.S.Store.state c.find_type.new.store) (g.S.Store.state c.find_spot.new.store)) c.in-Some-found.is c.in_ok-found.ensures.found in
     let did = c.in_ok-reply.ensures in
     add_applied ranges c.in_ok-named.ensures.works.went.reaches typed c.in_ok-found.ensures.works.went.reaches found c.is_of_kind.ensures.value (sym c.is_of_kind.ensures.answer ∙ c.if-not-is_of_kind.false) c.requires.stands.ordered
-    did.works.went.keeps.sound.writes_in_order did.works.went.reaches c.if-not-many.false did.added
+    did.works.went.keeps.sound.writes_in_order did.works.went.reaches (not-false c.in-Some.typed.many c.if-not-typed.false) did.added
