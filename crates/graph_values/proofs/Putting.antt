@@ -1,22 +1,22 @@
 -- A value of a property is set, or put behind those that are there.
-use Rattle.std.proofs.Common.{◌≡◌, ◌≢◌, ◌∙◌, ℕ, Bool, true, false, not, cond, [], ◌∷◌, ◌++◌, Option, Some, None, refl, sym, ap, subst, arith, ◌⊎◌, inl, inr}
+use Rattle.std.proofs.Common.{◌≡◌, ◌∙◌, ℕ, Bool, true, false, not, cond, [], ◌∷◌, ◌++◌, Some, None, refl, sym, ap, arith, ◌⊎◌, inl, inr}
 use Rattle.gdi_kinds.specs.Constraint.{kind_of, same_kind}
 use Rattle.gdi_kinds.specs.declared.call.Call.{Call}
 use Rattle.gdi_kinds.specs.declared.call.Call.TheVariants.{Add, Set}
 use Rattle.gdi_kinds.specs.declared.reply.Reply.{Reply}
-use Rattle.gdi_kinds.specs.declared.reply.Reply.TheVariants.{Done, NotMany, NoType, NoVertex, TooLarge, WrongKind}
+use Rattle.gdi_kinds.specs.declared.reply.Reply.TheVariants.{Done, NotMany, TooLarge, WrongKind}
 use Rattle.gdi_kinds.specs.declared.value.Value.{Value}
 use Rattle.rma_layout.specs.Placement.{Place, metadata}
 use Rattle.rma_layout.specs.Ranges.{IsInRange}
 use Rattle.rma_layout.specs.Shape.{Shape}
-use Rattle.object_words.specs.Contents.{IsByRisingObject, overlay}
+use Rattle.object_words.specs.Contents.{IsByRisingObject}
 use Rattle.graph_model.specs.Capacity.{make_of}
 use Rattle.graph_model.specs.Calls.{graph_after_call, reply_to, steps_of}
 use Rattle.graph_model.specs.Graph.{Graph, Name, Vertex, vertex_at}
 use Rattle.graph_model.specs.Lookups.{is_marked, kind_at, type_number, values_at}
 use Rattle.graph_model.specs.Maps.{with_at}
 use Rattle.graph_model.specs.Sizes.{is_too_large, words_of_vertex}
-use Rattle.graph_model.specs.Steps.{Answer, Step, ◌>>=◌, answer_of, found_or, leaves, refused_if}
+use Rattle.graph_model.specs.Steps.{Answer, Step, ◌>>=◌, answer_of, leaves, refused_if}
 use Rattle.graph_model.specs.VertexCalls.{with_vertex}
 use Rattle.graph_model.specs.WellFormed.{IsValue, IsWellFormed}
 use Rattle.graph_model.proofs.CallsKeepWellFormed as well
@@ -24,7 +24,6 @@ use Rattle.holder_codec.specs.Represents.{EdgeObjects, VertexObjects}
 use Rattle.holder_codec.proofs.SizesAreLengths.{vertex_size}
 use Rattle.object_store.specs.State.{StoreState}
 use Rattle.object_store.specs.Works.{At, Reaches}
-use Rattle.object_store.proofs.Works.{looks-then}
 use Rattle.held_objects.specs.declared.change.Change.{Change}
 use Rattle.held_objects.specs.declared.change.Change.TheVariants.{Made}
 use Rattle.held_objects.specs.Changes.{Changes}
@@ -36,7 +35,6 @@ use Rattle.graph_law.specs.declared.law.Noted.{Noted}
 use Rattle.graph_law.specs.Calls.{AppliesCall}
 use Rattle.graph_law.specs.Reach.{IsAsked}
 use Rattle.graph_vertices.specs.Finding.{FindsType, IsTypeIn}
-use Rattle.graph_vertices.proofs.VertexHere.{agrees_before, led_to, none_here, vertex_here}
 use Rattle.graph_values.specs.Spot.{FindsSpot}
 use Rattle.graph_values.specs.Typed.{HoldsTyped, IsTyped, longer}
 use Rattle.graph_values.proofs.Calling.{Finds, IsChanged, IsLeft, changed_applied, refused_applied}

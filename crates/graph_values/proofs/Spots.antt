@@ -1,12 +1,12 @@
 -- Where a vertex is, and what its object holds.
-use Rattle.std.proofs.Common.{◌≡◌, ℕ, ◌≤◌, List, length, Option, Some, None, refl, subst}
+use Rattle.std.proofs.Common.{◌≡◌, ℕ, ◌≤◌, List, length, Option, Some, None, refl}
 use Rattle.std.specs.Prelude.{IsSomeAnd, IfSome}
 use Rattle.gdi_kinds.specs.declared.value.Value.{Value}
 use Rattle.rma_layout.specs.Placement.{Place}
 use Rattle.rma_layout.specs.Ranges.{IsInRange}
 use Rattle.rma_layout.specs.Shape.{Shape}
 use Rattle.object_words.specs.Contents.{Contents, overlay}
-use Rattle.graph_model.specs.Graph.{Graph, PropType, Vertex, vertex_at}
+use Rattle.graph_model.specs.Graph.{Graph, PropType, Vertex}
 use Rattle.graph_model.specs.Maps.{at, item_at}
 use Rattle.graph_model.specs.WellFormed.{AreValues}
 use Rattle.graph_model.proofs.Entries.{All-map}
@@ -23,7 +23,7 @@ use Rattle.vertex_ops.specs.Vertices.{HeldVertex, IsOrderly, KnowsVertex, holder
 use Rattle.graph_law.specs.declared.law.Noted.{Noted}
 use Rattle.graph_law.specs.Calls.{Stands}
 use Rattle.graph_law.specs.Law.{Fits}
-use Rattle.graph_vertices.proofs.VertexHere.{holder_is, is_block, is_unreserved, led_to, object_here, vertex_here, words_here}
+use Rattle.graph_vertices.proofs.VertexHere.{holder_is, is_block, is_unreserved, led_to, vertex_here, words_here}
 use Rattle.graph_values.specs.Spot.{FindsSpot, IsSpot}
 
 -- a vertex of a graph, with the records of its edges

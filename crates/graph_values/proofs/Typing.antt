@@ -1,9 +1,8 @@
 -- A vertex of a graph in which a number is that of a property type, and what it is with a value more.
-use Rattle.std.proofs.Common.{◌≡◌, ◌∙◌, ℕ, zero, suc, ◌+◌, ◌≤◌, ◌<◌, Bool, true, false, List, [], ◌∷◌, ◌++◌, length, Result, Ok, Err, IfOk, Option, Some, None, refl, sym, ap, subst, arith}
+use Rattle.std.proofs.Common.{◌≡◌, ◌∙◌, ℕ, zero, suc, ◌<◌, true, false, List, [], ◌∷◌, ◌++◌, length, Result, Ok, Err, IfOk, Option, Some, None, refl, sym, ap, subst, arith}
 use Rattle.std.specs.Prelude.{IsSomeAnd}
 use Rattle.std.specs.Cmp.{nat_cmp_total}
 use Rattle.std.specs.FinMap.{nat_cmp-IsAntisymmetric}
-use Rattle.std.specs.List.{AllByRecursion}
 use Rattle.std.specs.Option.{option_map_or, unwrap_or}
 use Rattle.std.specs.Ordering.{nat_cmp}
 use Rattle.std.specs.Str.{bytes_eq}
@@ -26,26 +25,21 @@ use Rattle.graph_model.proofs.Entries.{All-find, All-push, All-put, IsMap-put}
 use Rattle.graph_model.proofs.KeepsWellFormed.{place-below}
 use Rattle.holder_codec.specs.declared.held_prop.HeldProp.{HeldProp}
 use Rattle.holder_codec.specs.declared.vertex_holder.VertexHolder.{VertexHolder}
-use Rattle.holder_codec.specs.Holders.{is_marked_in}
 use Rattle.holder_codec.specs.Represents.{Represents}
 use Rattle.holder_codec.specs.Vertex.{IsVertexHolder}
 use Rattle.holder_codec.proofs.Fitting.{few_names}
 use Rattle.holder_codec.proofs.Grouped.{props_fit, props_rise}
 use Rattle.holder_codec.proofs.Leading.{vertex_fits}
 use Rattle.object_store.specs.State.{StoreState}
-use Rattle.object_store.specs.Works.{Looks}
 use Rattle.held_objects.specs.declared.change.Change.{Change}
 use Rattle.held_objects.specs.declared.change.Change.TheVariants.{Made}
 use Rattle.held_objects.specs.Changes.{IfMade, map_made}
-use Rattle.held_objects.specs.Knows.{Knows}
-use Rattle.held_objects.proofs.Knows.{before}
 use Rattle.meta_tables.specs.declared.prop_type.PropType.{PropType}
 use Rattle.vertex_ops.specs.Vertices.{HeldVertex, holder_for, valued, with_props}
 use Rattle.graph_law.specs.declared.law.Noted.{Noted}
-use Rattle.graph_law.specs.Calls.{Stands}
 use Rattle.graph_vertices.specs.Finding.{FindsType, IsTypeIn}
 use Rattle.graph_vertices.proofs.VertexHere.{agrees_before, led_to, vertex_here}
-use Rattle.graph_values.specs.Spot.{FindsSpot, IsSpot}
+use Rattle.graph_values.specs.Spot.{FindsSpot}
 use Rattle.graph_values.specs.Typed.{IsTyped, KnowsTyped, longer, with_another, with_one}
 use Rattle.graph_values.proofs.Spots.{held_here, holds_here}
 use Rattle.graph_values.proofs.ValueLists.{added_held, set_held}

@@ -1,38 +1,36 @@
 -- The values of a property are taken from a vertex.
-use Rattle.std.proofs.Common.{◌≡◌, ◌≢◌, ◌∙◌, ℕ, ◌≤◌, Bool, true, false, not, cond, List, length, Option, Some, None, refl, sym, ap, subst, arith, ◌⊎◌, inl, inr}
+use Rattle.std.proofs.Common.{◌≡◌, ◌∙◌, ℕ, ◌≤◌, Bool, true, false, not, cond, List, length, Some, None, refl, sym, ap, subst, arith, ◌⊎◌, inl, inr}
 use Rattle.std.specs.Prelude.{◌==◌}
-use Rattle.std.specs.List.{filter}
 use Rattle.std.proofs.lemmas.Bool.Decides.{nat_tests}
 use Rattle.gdi_kinds.specs.declared.call.Call.TheVariants.{Unset}
 use Rattle.gdi_kinds.specs.declared.reply.Reply.{Reply}
-use Rattle.gdi_kinds.specs.declared.reply.Reply.TheVariants.{Done, NoProp, NoType, NoVertex, TooLarge}
+use Rattle.gdi_kinds.specs.declared.reply.Reply.TheVariants.{Done, NoProp, TooLarge}
 use Rattle.rma_layout.specs.Placement.{Place, metadata}
 use Rattle.rma_layout.specs.Ranges.{IsInRange}
 use Rattle.rma_layout.specs.Shape.{Shape}
-use Rattle.object_words.specs.Contents.{Agrees, Contents, IsByRisingObject, content_of, overlay}
+use Rattle.object_words.specs.Contents.{Contents, IsByRisingObject}
 use Rattle.graph_model.specs.Capacity.{make_of}
 use Rattle.graph_model.specs.Calls.{graph_after_call, reply_to, steps_of}
 use Rattle.graph_model.specs.Graph.{Graph, Name, Props, Vertex, vertex_at}
 use Rattle.graph_model.specs.Lookups.{type_number}
-use Rattle.graph_model.specs.Maps.{at, is_there, without}
-use Rattle.graph_model.specs.Sizes.{is_too_large, most_words, words_of_props, words_of_values, words_of_vertex}
-use Rattle.graph_model.specs.Steps.{Answer, Step, ◌>>=◌, answer_of, found_or, leaves, refused_if}
+use Rattle.graph_model.specs.Maps.{is_there, without}
+use Rattle.graph_model.specs.Sizes.{is_too_large, most_words, words_of_props, words_of_values}
+use Rattle.graph_model.specs.Steps.{Answer, Step, ◌>>=◌, answer_of, leaves, refused_if}
 use Rattle.graph_model.specs.VertexCalls.{with_vertex}
 use Rattle.graph_model.proofs.CallsKeepWellFormed as well
 use Rattle.graph_model.proofs.MapSums.{sum_by-filter-le}
-use Rattle.holder_codec.specs.Represents.{EdgeObjects, Represents, VertexObjects, holder_of}
-use Rattle.holder_codec.specs.Vertex.{IsVertexHolder, vertex_words}
+use Rattle.holder_codec.specs.Represents.{Represents, holder_of}
+use Rattle.holder_codec.specs.Vertex.{vertex_words}
 use Rattle.holder_codec.proofs.SizesAreLengths.{vertex_size}
 use Rattle.object_store.specs.State.{StoreState}
-use Rattle.object_store.specs.Works.{At, Looks, Reaches}
-use Rattle.object_store.proofs.Works.{looks-then}
+use Rattle.object_store.specs.Works.{At, Reaches}
 use Rattle.held_objects.specs.declared.change.Change.{Change}
 use Rattle.held_objects.specs.declared.change.Change.TheVariants.{Made, Refused}
 use Rattle.held_objects.specs.Changes.{Changes, IsHeldAs}
 use Rattle.held_objects.specs.Changes as held
 use Rattle.id_hash.specs.Buckets.{IsBucketFor}
 use Rattle.meta_tables.specs.declared.prop_type.PropType.{PropType}
-use Rattle.vertex_ops.specs.Vertices.{HeldVertex, HoldsVertex, IsOrderly, holder_for, size, unvalued}
+use Rattle.vertex_ops.specs.Vertices.{HeldVertex, HoldsVertex, IsOrderly, size, unvalued}
 use Rattle.graph_law.specs.declared.law.Noted.{Noted}
 use Rattle.graph_law.specs.Calls.{AppliesCall}
 use Rattle.graph_law.specs.Reach.{IsAsked}

@@ -1,12 +1,10 @@
-use Rattle.std.proofs.Common.{◌≡◌, ◌∙◌, ap, IfOk}
+use Rattle.std.proofs.Common.{◌≡◌, ◌∙◌, ap}
 use Rattle.object_store.proofs.Works.{went-works}
-use Rattle.holder_codec.specs.Vertex.{IsVertexHolder}
 use Rattle.holder_codec.proofs.Lengths.{vertex_same}
-use Rattle.held_objects.specs.Changes.{IfMade}
 use Rattle.held_objects.proofs.Changes.{changes_ok, may_write, read_part, spelled_part}
-use Rattle.vertex_ops.specs.Vertices.{holder_for, valued}
+use Rattle.vertex_ops.specs.Vertices.{holder_for}
 use Rattle.vertex_ops.proofs.LabelSets.{some_words}
-use Rattle.graph_values.specs.Typed.{IsTyped, longer, with_another, with_one}
+use Rattle.graph_values.specs.Typed.{IsTyped, longer, with_another}
 use Rattle.graph_values.proofs.Typing.{another_is, another_spelled, spelled_if_made, typed_with_another}
 use Rattle.graph_values.proofs.setting.add_value.Goals as goal
 

@@ -1,12 +1,10 @@
-use Rattle.std.proofs.Common.{◌≡◌, ◌∙◌, ap, IfOk}
+use Rattle.std.proofs.Common.{◌≡◌, ◌∙◌, ap}
 use Rattle.object_store.proofs.Works.{went-works}
-use Rattle.holder_codec.specs.Vertex.{IsVertexHolder}
 use Rattle.holder_codec.proofs.Lengths.{vertex_same}
-use Rattle.held_objects.specs.Changes.{IfMade}
 use Rattle.held_objects.proofs.Changes.{changes_ok, may_write, read_part, spelled_part}
 use Rattle.vertex_ops.specs.Vertices.{holder_for, valued}
 use Rattle.vertex_ops.proofs.LabelSets.{some_words}
-use Rattle.graph_values.specs.Typed.{IsTyped, longer, with_another, with_one}
+use Rattle.graph_values.specs.Typed.{IsTyped, with_one}
 use Rattle.graph_values.proofs.Typing.{one_is, one_spelled, spelled_if_made, typed_with_one}
 use Rattle.graph_values.proofs.setting.set_value.Goals as goal
 
@@ -20,7 +18,7 @@ pub settle-requires-clause-is : goal.settle-requires-clause-is
 settle-requires-clause-is g c =
     let part = read_part holder_for (IsTyped c.args.typed) vertex_same c.in_ok-holder.ensures.found c.requires.vertex in
     spelled_if_made c.with_one-made.result (with_one c.args.typed c.args.value.now c.in_ok-holder.holder) c.with_one-made.ensures
-    (one_spelled c.args.typed c.args.value.now part.1 part.2 c.in_ok-holder.ensures.found.is c.requires.value c.requires.kind )
+    (one_spelled c.args.typed c.args.value.now part.1 part.2 c.in_ok-holder.ensures.found.is c.requires.value c.requires.kind)
 
 pub returns-clause-works : goal.returns-clause-works
 returns-clause-works g c = went-works c.settle.result c.in_ok-holder.ensures.works.went c.settle.ensures.works
