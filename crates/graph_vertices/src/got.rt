@@ -8,11 +8,7 @@ use holder_codec::HeldProps;
 use std::alloc::Global;
 
 /// The values of a property by the number of its type.
-pub fn values_with(
-    alloc: Global,
-    props: &HeldProps,
-    number: u32,
-) -> Result<ValueList, NoMemory>
+pub fn values_with(alloc: Global, props: &HeldProps, number: u32) -> Result<ValueList, NoMemory>
     ensures { IfOk result (λ values. values ≡ map (λ prop. prop.value) (filter (λ prop. prop.number == number) props.now)) }
 {
     let mut values = ValueList::new(alloc);

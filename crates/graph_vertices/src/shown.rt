@@ -8,11 +8,7 @@ use holder_codec::{HeldProps, TypeList};
 use std::alloc::Global;
 
 /// The names of labels by their numbers.
-pub fn names_of(
-    alloc: Global,
-    names: &NameList,
-    labels: &U32List,
-) -> Result<NameList, NoMemory>
+pub fn names_of(alloc: Global, names: &NameList, labels: &U32List) -> Result<NameList, NoMemory>
     requires { AllByRecursion (λ n. n < length names.now) labels.now }
     ensures { IfOk result (λ shown. shown ≡ map (λ n. unwrap_or (item_at names.now n) []) labels.now) }
 {
@@ -26,11 +22,7 @@ pub fn names_of(
 }
 
 /// A line for each value of properties.
-pub fn lines_of(
-    alloc: Global,
-    types: &TypeList,
-    props: &HeldProps,
-) -> Result<PropList, NoMemory>
+pub fn lines_of(alloc: Global, types: &TypeList, props: &HeldProps) -> Result<PropList, NoMemory>
     requires { AllByRecursion (λ prop. prop.number < length types.now) props.now }
     ensures { IfOk result (λ lines. lines ≡ map (λ prop. record {
       name = option_map_or (λ type. type.name) (item_at types.now prop.number) [];
