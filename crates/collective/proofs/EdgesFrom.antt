@@ -24,7 +24,7 @@ use Rattle.holder_codec.proofs.Maps.{All-below, All-both, All-from_find, IsMap-b
 use Rattle.collective.specs.Copying.{holders_of}
 use Rattle.collective.specs.Objects.{own_object, own_of, owns_of, all_owns}
 
-All-each : {X : Type 0} {P Q : X → Type 0} → ((x : X) → P x → Q x) → (xs : List X) → AllByRecursion P xs → AllByRecursion Q xs
+pub All-each : {X : Type 0} {P Q : X → Type 0} → ((x : X) → P x → Q x) → (xs : List X) → AllByRecursion P xs → AllByRecursion Q xs
 All-each each [] all = tt
 All-each each (x ∷ xs) all = (each x all.0, All-each each xs all.1)
 
@@ -44,6 +44,33 @@ less_source a b below = grind (arith, nat_tests)
 less_id : (a b : ℕ) → is_lt (nat_cmp a b) ≡ true → a < b
 less_id a b below = grind (arith, nat_tests)
 
+apart_false : (a b : ℕ) → a < b → (b == a) ≡ false
+apart_false a b below = grind (arith, nat_tests)
+
+found_later : {Y : Type 0} (v : ℕ × Y) (vs : Map ℕ Y) (k : ℕ) → (k == v.0) ≡ false → is_some (find nat_cmp k (v ∷ vs)) ≡ true → is_some (find nat_cmp k vs) ≡ true
+found_later v vs k apart there = ap (λ b. is_some (cond b (Some v.1) (find nat_cmp k vs))) (sym (untied k v.0 apart)) ∙ there
+  where
+    untied : (a b : ℕ) → (a == b) ≡ false → eq_by_cmp nat_cmp a b ≡ false
+    untied a b apart = grind (arith, nat_tests)
+
+found_above : {Y : Type 0} (v : ℕ × Y) (vs : Map ℕ Y) (k : ℕ) → below_all nat_cmp v.0 vs ≡ true → is_some (find nat_cmp k (v ∷ vs)) ≡ true → v.0 ≤ k
+found_above v vs k below there = cases (k == v.0) refl
+  where
+    far : is_some (find nat_cmp k vs) ≡ true → v.0 < k
+    far found = above_found vs k (All-each (λ w is. less_id v.0 w.0 is) vs (All-below nat_cmp v.0 vs below)) found
+      where
+        above_found : {Y : Type 0} (ws : Map ℕ Y) (q : ℕ) → AllByRecursion (λ w. v.0 < w.0) ws → is_some (find nat_cmp q ws) ≡ true → v.0 < q
+        above_found [] q all found = absurd (cc found)
+        above_found (w ∷ ws) q all found = by_tie (above_found ws q all.1) (eq_by_cmp nat_cmp q w.0) refl found
+          where
+            by_tie : (is_some (find nat_cmp q ws) ≡ true → v.0 < q) → (tie : Bool) → eq_by_cmp nat_cmp q w.0 ≡ tie → is_some (cond tie (Some w.1) (find nat_cmp q ws)) ≡ true → v.0 < q
+            by_tie rest true tie found = grind (arith, nat_tests, tie, all.0)
+            by_tie rest false tie found = rest found
+
+    cases : (b : Bool) → (k == v.0) ≡ b → v.0 ≤ k
+    cases true is = let same = eqb-true k v.0 is in omega arith
+    cases false is = let up = far (found_later v vs k is there) in omega arith
+
 module _ {X : Type 0} where
   abbrev is_from : ℕ → EdgeKey × X → Bool
   is_from id entry = entry.0.source == id
@@ -56,9 +83,6 @@ module _ {X : Type 0} where
 
   abbrev Above : ℕ → Map EdgeKey X → Type 0
   Above id es = AllByRecursion (λ entry. id < entry.0.source) es
-
-  apart_false : (a b : ℕ) → a < b → (b == a) ≡ false
-  apart_false a b below = grind (arith, nat_tests)
 
   none_from : (id : ℕ) (es : Map EdgeKey X) → Above id es → from id es ≡ []
   none_from id [] above = refl
@@ -87,30 +111,6 @@ module _ {X : Type 0} where
           → cond b (e ∷ from id es) (from id es) ++ cond (not b) (e ∷ others id es) (others id es) ≡ e ∷ es
       cases rest true is = ap (λ later. e ∷ later) rest
       cases rest false is = λ i. none_from id es (above is) i ++ e ∷ all_others id es (above is) i
-
-  found_later : {Y : Type 0} (v : ℕ × Y) (vs : Map ℕ Y) (k : ℕ) → (k == v.0) ≡ false → is_some (find nat_cmp k (v ∷ vs)) ≡ true → is_some (find nat_cmp k vs) ≡ true
-  found_later v vs k apart there = ap (λ b. is_some (cond b (Some v.1) (find nat_cmp k vs))) (sym (untied k v.0 apart)) ∙ there
-    where
-      untied : (a b : ℕ) → (a == b) ≡ false → eq_by_cmp nat_cmp a b ≡ false
-      untied a b apart = grind (arith, nat_tests)
-
-  found_above : {Y : Type 0} (v : ℕ × Y) (vs : Map ℕ Y) (k : ℕ) → below_all nat_cmp v.0 vs ≡ true → is_some (find nat_cmp k (v ∷ vs)) ≡ true → v.0 ≤ k
-  found_above v vs k below there = cases (k == v.0) refl
-    where
-      far : is_some (find nat_cmp k vs) ≡ true → v.0 < k
-      far found = above_found vs k (All-each (λ w is. less_id v.0 w.0 is) vs (All-below nat_cmp v.0 vs below)) found
-        where
-          above_found : {Y : Type 0} (ws : Map ℕ Y) (q : ℕ) → AllByRecursion (λ w. v.0 < w.0) ws → is_some (find nat_cmp q ws) ≡ true → v.0 < q
-          above_found [] q all found = absurd (cc found)
-          above_found (w ∷ ws) q all found = by_tie (above_found ws q all.1) (eq_by_cmp nat_cmp q w.0) refl found
-            where
-              by_tie : (is_some (find nat_cmp q ws) ≡ true → v.0 < q) → (tie : Bool) → eq_by_cmp nat_cmp q w.0 ≡ tie → is_some (cond tie (Some w.1) (find nat_cmp q ws)) ≡ true → v.0 < q
-              by_tie rest true tie found = grind (arith, nat_tests, tie, all.0)
-              by_tie rest false tie found = rest found
-
-      cases : (b : Bool) → (k == v.0) ≡ b → v.0 ≤ k
-      cases true is = let same = eqb-true k v.0 is in omega arith
-      cases false is = let up = far (found_later v vs k is there) in omega arith
 
   -- each edge has its source among the vertices
   abbrev HaveSources : {Y : Type 0} → Map ℕ Y → Map EdgeKey X → Type 0

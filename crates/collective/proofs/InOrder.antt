@@ -61,6 +61,10 @@ module _ (vertices : VertexObjects) where
   sorted-in_order (e ∷ es) objects sorted =
       sorted-in_order es (with_at objects e.id e.at) (of_T _ (is_sorted-put nat_cmp nat_cmp_total e.id e.at objects (to_T _ sorted)))
 
+either_none : (b : Bool) (none : Option Place) → none ≡ None → cond b none None ≡ None
+either_none true none is = is
+either_none false none is = refl
+
 -- ---- each vertex is in its bucket
 
 any_of_map : (id : ℕ) (place : Place) (objects : VertexObjects) → find nat_cmp id objects ≡ Some place
@@ -136,9 +140,5 @@ module _ (shape : Shape) (ranges : IsInRange shape) (vertices : VertexObjects) (
       find-in_order vertices id all_entries [] (of_buckets (all_buckets shape)) ∙ reach id (find nat_cmp id vertices) refl)
     where
       reach : (id : ℕ) (o : Option Place) → find nat_cmp id vertices ≡ o → cond (list_any (is_for id) all_entries) (find nat_cmp id vertices) None ≡ find nat_cmp id vertices
-      reach id None is = ap (λ o. cond (list_any (is_for id) all_entries) o None) is ∙ (either (list_any (is_for id) all_entries) ∙ sym is)
+      reach id None is = either_none (list_any (is_for id) all_entries) (find nat_cmp id vertices) is ∙ sym is
       reach id (Some place) is = ap (λ b. cond b (find nat_cmp id vertices) None) (any_entry id place is)
-
-      either : (b : Bool) → cond b (None {A = Place}) None ≡ None
-      either true = refl
-      either false = refl

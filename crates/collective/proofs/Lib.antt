@@ -1,4 +1,4 @@
-pub mod Buckets
+pub mod BucketPlaces
 pub mod InOrder
 pub mod EdgesFrom
 pub mod Standing

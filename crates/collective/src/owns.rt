@@ -22,7 +22,9 @@ fn push_owns(places: &mut ListOf<DPtr>, lines: &[EdgeRecord]) -> Result<(), NoMe
     ensures { OnOk result (places.new ≡ places.old ++ owns_of lines.now) }
 {
     for line in lines {
-        if !line.inward && let EdgeForm::Heavy(at) = line.form {
+        if !line.inward
+            && let EdgeForm::Heavy(at) = line.form
+        {
             places.push(at)?;
         }
     }

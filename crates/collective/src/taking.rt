@@ -41,10 +41,5 @@ pub fn snapshot<L: KeepsGraph>(
     let place = rank.place(window);
     rank.all_leave(window);
     let lists = copied?;
-    Ok(Snapshot::of(
-        place,
-        lists.meta,
-        lists.vertices,
-        lists.edges,
-    ))
+    Ok(Snapshot::of(place, lists.meta, lists.vertices, lists.edges))
 }

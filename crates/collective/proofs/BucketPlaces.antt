@@ -15,9 +15,10 @@ All-range P a (suc n) each = (each a (omega arith) (omega arith), All-range P (a
 
 apart_range : (f : ℕ → Place) → ((n m : ℕ) → f n ≡ f m → n ≡ m) → (a n : ℕ) → AreApart (map f (range_with_len a n))
 apart_range f same a zero = tt
-apart_range f same a (suc n) =
-    (All-over_map (λ other. other ≢ f a) f (range_with_len (a + 1) n) (All-range (λ k. f k ≢ f a) (a + 1) n (λ k from to e. let no = same k a e in omega arith)),
-    apart_range f same (a + 1) n)
+apart_range f same a (suc n) = (
+  All-over_map (λ other. other ≢ f a) f (range_with_len (a + 1) n) (All-range (λ k. f k ≢ f a) (a + 1) n (λ k from to e. let no = same k a e in omega arith)),
+  apart_range f same (a + 1) n,
+)
 
 module _ (shape : Shape) (ranges : IsInRange shape) where
   pub bucket_is : (n : ℕ) → n < shape.ranks * shape.buckets → IsBucket shape (bucket_at shape n)
