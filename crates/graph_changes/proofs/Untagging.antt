@@ -1,5 +1,5 @@
 -- The call that takes a label from a vertex does to a store what it does to the graph.
-use Rattle.std.proofs.Common.{◌≡◌, ◌≢◌, ◌∙◌, ℕ, ◌+◌, ◌<◌, ◌≤◌, Bool, true, false, not, cond, ◌&&◌, List, [], ◌∷◌, length, Option, Some, None, IsSome, refl, sym, ap, subst, arith, ◌⊎◌, inl, inr}
+use Rattle.std.proofs.Common.{◌≡◌, ◌≢◌, ◌∙◌, ℕ, ◌+◌, ◌<◌, ◌≤◌, Bool, true, false, not, cond, ◌&&◌, List, [], ◌∷◌, length, Option, Some, None, Err, IsSome, refl, sym, ap, subst, arith, ◌⊎◌, inl, inr}
 use Rattle.std.specs.Prelude.{IsSomeAnd, is_some, ◌==◌}
 use Rattle.std.specs.List.{AllByRecursion}
 use Rattle.std.specs.Option.{option_map_or}
@@ -154,7 +154,7 @@ module _ {id : ℕ} {name : Name} {old named : StoreState Noted} {label : Option
 
   pub no_label_applied : label ≡ None → IsSound Fits named → AppliesCall (Untag id name) old named NoLabel
   no_label_applied none sound = left_applied tells.looks sound
-      (λ store g is agrees. ends old.shape g id name None (vertex_at g id) _ (numbered store g is agrees ∙ none) refl refl)
+      (λ store g is agrees. ends old.shape g id name None (vertex_at g id) (Err NoLabel) (numbered store g is agrees ∙ none) refl refl)
       (λ store g is agrees place. read_names store g is place)
 
   -- ---- the vertex is looked up
@@ -177,7 +177,7 @@ module _ {id : ℕ} {name : Name} {old named : StoreState Noted} {label : Option
 
     pub no_vertex_applied : {n : ℕ} → label ≡ Some n → found ≡ None → IsSound Fits led → AppliesCall (Untag id name) old led (NoVertex id)
     no_vertex_applied {n} is_label none sound = left_applied looks sound
-        (λ store g is agrees. ends old.shape g id name (Some n) None _ (numbered store g is (agrees_before finds.looks.stays store agrees) ∙ is_label) (none_here ranges is id (leads_at store g is agrees ∙ none)) refl)
+        (λ store g is agrees. ends old.shape g id name (Some n) None (Err (NoVertex id)) (numbered store g is (agrees_before finds.looks.stays store agrees) ∙ is_label) (none_here ranges is id (leads_at store g is agrees ∙ none)) refl)
         (λ store g is agrees place. read_bucket store g is place)
 
     -- ---- the vertex is changed
@@ -193,9 +193,6 @@ module _ {id : ℕ} {name : Name} {old named : StoreState Noted} {label : Option
 
         leads : at is.vertices id ≡ Some object
         leads = leads_at store g is agrees_led ∙ is_found
-
-        before : Vertex
-        before = (vertex_here ranges is id leads).0
 
         there : vertex_at g id ≡ Some before
         there = (vertex_here ranges is id leads).1
@@ -213,7 +210,7 @@ module _ {id : ℕ} {name : Name} {old named : StoreState Noted} {label : Option
             let was = vertex_size g is.vertices is.edges id vertex in
             let few : length (vertex_words (holder_of g is.vertices is.edges id vertex)) ≤ most_words = subst (λ (ws : List ℕ). length ws ≤ most_words) (holds_here ranges is id leads).words (holds_here ranges is id leads).within in
             let fewer = length-filter-le (λ m. not (m == n)) vertex.labels in
-            fits_still _ (omega (arith, now, was, few, fewer))
+            fits_still (size (held_with ranges is id leads (without_label n (vertex_here ranges is id leads).0))) (omega (arith, now, was, few, fewer))
 
         answered : (b : Bool) → has (vertex_here ranges is id leads).0.labels n ≡ b → reply ≡ cond b Done LacksLabel
         answered true has_it = changes.answer store held_then agrees holds_then
@@ -323,9 +320,6 @@ module _ {id : ℕ} {name : Name} {old named : StoreState Noted} {label : Option
           agrees_cleared : Agrees cleared.reads store
           agrees_cleared = agrees_before removing.stays store agrees
 
-          abbrev was : Vertex
-          was = (vertex_here ranges is id (leads store g is agrees_cleared)).0
-
           abbrev h : Graph
           h = with_vertex g id (without_label n (vertex_here ranges is id (leads store g is agrees_cleared)).0)
 
@@ -398,8 +392,8 @@ module _ {id : ℕ} {name : Name} {old named : StoreState Noted} {label : Option
               (λ place. elim (written place) [
                 | inl at_slot ↦ inl (subst (λ (p : Place). IsReserved old.shape p.block) (sym at_slot) is_slot.block.1)
                 | inr (inl it) ↦ inr (inr (
-                  λ none. some_words _ (sym before_words.words ∙ (ap (content_of (overlay store old.writes)) (sym it) ∙ none)),
-                  λ none. some_words _ (sym now.words ∙ (same_at_object ∙ (ap (content_of (overlay store new.writes)) (sym it) ∙ none))),
+                  λ none. some_words (holder_for (held_then store g is agrees_cleared)) (sym before_words.words ∙ (ap (content_of (overlay store old.writes)) (sym it) ∙ none)),
+                  λ none. some_words (holder_for (held_with ranges is id (leads store g is agrees_cleared) (without_label n (vertex_here ranges is id (leads store g is agrees_cleared)).0))) (sym now.words ∙ (same_at_object ∙ (ap (content_of (overlay store new.writes)) (sym it) ∙ none))),
                 ))
                 | inr (inr later) ↦ inr (inl later)
               ])

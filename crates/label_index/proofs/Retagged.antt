@@ -12,10 +12,11 @@ use Rattle.std.proofs.lemmas.List.Concat.{flat_map-cons}
 use Rattle.rma_layout.specs.Shape.{Shape}
 use Rattle.rma_layout.specs.Placement.{Place}
 use Rattle.object_words.specs.Contents.{Contents, content_of}
-use Rattle.graph_model.specs.Maps.{Map, IsMap, add, at, has, take_out, with_at}
+use Rattle.graph_model.specs.Maps.{Map, IsMap, at, has, take_out, with_at}
 use Rattle.graph_model.specs.Graph.{Graph, Vertex, vertex_at}
 use Rattle.graph_model.specs.VertexCalls.{with_vertex}
 use Rattle.graph_model.proofs.Entries.{IsMap-put}
+use Rattle.graph_model.proofs.Sets.{is_eq-nat_cmp}
 use Rattle.holder_codec.specs.declared.index_entry.IndexEntry.{IndexEntry}
 use Rattle.holder_codec.specs.Represents.{IsSlot, pairs_of_label}
 use Rattle.rising_lists.specs.Rising.{by_key}
@@ -80,9 +81,6 @@ of_label (e ∷ es) pair sorted =
   where
     others : List IndexEntry
     others = tagged_with es pair.0
-
-    first : Bool → Option IndexEntry
-    first h = entry_for (map (λ (f : ℕ × Vertex). record { label = pair.0; id = f.0 }) (cond h (e ∷ filter (λ f. has f.1.labels pair.0) es) (filter (λ f. has f.1.labels pair.0) es))) pair
 
     cases : (tie : Bool) → is_eq (nat_cmp pair.1 e.0) ≡ tie → below_all nat_cmp e.0 es ≡ true → entry_for (tagged_with es pair.0) pair ≡ if_so (is_labelled es pair) pair
         → entry_for (tagged_with (e ∷ es) pair.0) pair ≡ if_so (option_map_or (λ (vertex : Vertex). has vertex.labels pair.0) (cond (is_eq (nat_cmp pair.1 e.0)) (Some e.1) (at es pair.1)) false) pair
@@ -151,13 +149,9 @@ rises g sorted = rise_all g.vertices sorted 0 (length g.labels)
 
 -- ---- one label more or less
 
-has-take_out : (n : ℕ) (set : List ℕ) (m : ℕ) → has (take_out n set) m ≡ (not (eqb n m) && has set m)
+pub has-take_out : (n : ℕ) (set : List ℕ) (m : ℕ) → has (take_out n set) m ≡ (not (eqb n m) && has set m)
 has-take_out n [] m = elim (not (eqb n m)) as (λ b. false ≡ (b && false)) [ true ↦ refl | false ↦ refl ]
 has-take_out n (x ∷ xs) m = grind (arith, nat_tests, has-take_out n xs m)
-
-has-add : (n : ℕ) (set : List ℕ) (m : ℕ) → has (add n set) m ≡ (eqb n m || has set m)
-has-add n [] m = refl
-has-add n (x ∷ xs) m = grind (arith, nat_tests, has-add n xs m)
 
 module _ (g : Graph) (id label : ℕ) (before after : Vertex) (there : vertex_at g id ≡ Some before) (sorted : IsMap nat_cmp g.vertices) where
   sorted_after : IsMap nat_cmp (with_at g.vertices id after)
@@ -174,7 +168,7 @@ module _ (g : Graph) (id label : ℕ) (before after : Vertex) (there : vertex_at
       ap (λ o. option_map_or (λ (vertex : Vertex). has vertex.labels pair.0) o false) (ap (at g.vertices) same ∙ there)
 
   tie_of : (pair : Pair) → is_pair (label, id) pair ≡ (eqb label pair.0 && eq_by_cmp nat_cmp pair.1 id)
-  tie_of pair = grind (arith, nat_tests)
+  tie_of pair = ap (λ b. eqb label pair.0 && b) (sym (is_eq-nat_cmp pair.1 id))
 
   -- without a label
   pub index_untagged : ((n : ℕ) → has after.labels n ≡ (not (eqb label n) && has before.labels n)) → tagged (with_vertex g id after) ≡ without_pair (label, id) (tagged g)
