@@ -1,5 +1,5 @@
 -- A vertex has other labels, in its object and in one object of the index: the store is then one of the graph with it.
-use Rattle.std.proofs.Common.{◌≡◌, ◌≢◌, ◌∙◌, ℕ, ◌≤◌, Bool, true, false, not, cond, ◌&&◌, List, [], ◌∷◌, length, nat_lt, Option, Some, None, refl, sym, ap, subst, eq-eqb, arith, ◌⊎◌, inl, inr}
+use Rattle.std.proofs.Common.{◌≡◌, ◌≢◌, ◌∙◌, ℕ, ◌<◌, ◌≤◌, Bool, true, false, not, cond, ◌&&◌, List, [], ◌∷◌, length, nat_lt, Option, Some, None, refl, sym, ap, subst, eq-eqb, arith, ◌⊎◌, inl, inr}
 use Rattle.std.specs.Prelude.{is_some, ◌==◌}
 use Rattle.std.specs.Option.{option_map_or}
 use Rattle.std.specs.List.{flat_map, range_with_len}
@@ -76,7 +76,8 @@ made_as_before shape store before after rank ordered ordered_after written = tot
         → one_if (not (is_reserved shape place.block) && is_empty (content_of store place) && is_some (words_at after place)) ≡ one_if (not (is_reserved shape place.block) && is_empty (content_of store place) && is_some (words_at before place))
     here place (inl reserved) =
         let is : is_reserved shape place.block ≡ true = grind (arith, nat_tests, reserved) in
-        λ i. one_if (not (is i) && is_empty (content_of store place) && is_some (words_at after place))
+        ap (λ b. one_if (not b && is_empty (content_of store place) && is_some (words_at after place))) is
+        ∙ sym (ap (λ b. one_if (not b && is_empty (content_of store place) && is_some (words_at before place))) is)
     here place (inr (inl same)) = ap (λ o. one_if (not (is_reserved shape place.block) && is_empty (content_of store place) && is_some o)) same
     here place (inr (inr some)) = filled (is_reserved shape place.block) (content_of store place) (words_at before place) (words_at after place)
         (λ none. some.0 (content-overlay store before place ordered ∙ none)) (λ none. some.1 (content-overlay store after place ordered_after ∙ none))

@@ -143,7 +143,7 @@ lacks_apart never = cc
 fits_still : (n : ℕ) → n ≤ most_words → is_too_large n ≡ false
 fits_still n few = grind (arith, nat_tests, few)
 
-module _ {id : ℕ} {name : Name} {old named : StoreState Noted} {label : Option ℕ} (ranges : IsInRange old.shape) (tells : Tells HasNames (λ names. label ≡ meta.label_number name names) old named)
+module _ (id : ℕ) (name : Name) {old named : StoreState Noted} {label : Option ℕ} (ranges : IsInRange old.shape) (tells : Tells HasNames (λ names. label ≡ meta.label_number name names) old named)
     (naming : Reaches (At metadata old.shape) (λ _. ⊥) old named) where
   numbered : (store : Contents) (g : Graph) (is : Represents old.shape (overlay store old.writes) g) → Agrees named.reads store → graph.label_number g name ≡ label
   numbered store g is agrees = sym (tells.answer store (names_of g) agrees (represents_names old.shape (overlay store old.writes) g is))
@@ -194,7 +194,7 @@ module _ {id : ℕ} {name : Name} {old named : StoreState Noted} {label : Option
         leads : at is.vertices id ≡ Some object
         leads = leads_at store g is agrees_led ∙ is_found
 
-        there : vertex_at g id ≡ Some before
+        there : vertex_at g id ≡ Some (vertex_here ranges is id leads).0
         there = (vertex_here ranges is id leads).1
 
         abbrev held_then : HeldVertex

@@ -38,7 +38,7 @@ returns-in-None-clause-works g c = record {
 pub returns-in-None-clause-applied : goal.returns-in-None-clause-applied
 returns-in-None-clause-applied g c =
     let went = c.in_ok-named.ensures.works.went in
-    no_label_applied (subst IsInRange c.geometry-geometry.ensures c.keeps_ranges.ensures) c.in_ok-named.ensures.found went.reaches c.in-None.is went.keeps.sound
+    no_label_applied c.args.id c.args.name.now (subst IsInRange c.geometry-geometry.ensures c.keeps_ranges.ensures) c.in_ok-named.ensures.found went.reaches c.in-None.is went.keeps.sound
 
 pub find-requires-clause-leads : goal.find-requires-clause-leads
 find-requires-clause-leads g c =
@@ -67,7 +67,7 @@ returns-in-None-found-clause-works g c =
 pub returns-in-None-found-clause-applied : goal.returns-in-None-found-clause-applied
 returns-in-None-found-clause-applied g c =
     let went = c.in_ok-found.ensures.works.went in
-    no_vertex_applied (subst IsInRange c.geometry-geometry.ensures c.keeps_ranges.ensures) c.in_ok-named.ensures.found c.in_ok-named.ensures.works.went.reaches c.in_ok-found.ensures.found went.reaches c.in-Some.is c.in-None-found.is went.keeps.sound
+    no_vertex_applied c.args.id c.args.name.now (subst IsInRange c.geometry-geometry.ensures c.keeps_ranges.ensures) c.in_ok-named.ensures.found c.in_ok-named.ensures.works.went.reaches c.in_ok-found.ensures.found went.reaches c.in-Some.is c.in-None-found.is went.keeps.sound
 
 pub clear_label-requires-clause-begun : goal.clear_label-requires-clause-begun
 clear_label-requires-clause-begun g c = c.in_ok-found.ensures.found.looks.stays.phase ∙ (c.in_ok-named.ensures.found.looks.stays.phase ∙ c.requires.may.writing refl)
@@ -95,14 +95,14 @@ pub returns-then-not-done-clause-applied : goal.returns-then-not-done-clause-app
 returns-then-not-done-clause-applied g c =
     let ranges = subst IsInRange c.geometry-geometry.ensures c.keeps_ranges.ensures in
     let cleared = c.in_ok-reply.ensures in
-    lacks_applied ranges c.in_ok-named.ensures.found c.in_ok-named.ensures.works.went.reaches c.in_ok-found.ensures.found c.in_ok-found.ensures.works.went.reaches c.in-Some.is c.in-Some-found.is
+    lacks_applied c.args.id c.args.name.now ranges c.in_ok-named.ensures.found c.in_ok-named.ensures.works.went.reaches c.in_ok-found.ensures.found c.in_ok-found.ensures.works.went.reaches c.in-Some.is c.in-Some-found.is
     cleared.unlabelled cleared.works.went.reaches (rw c.if-not-done.true at c.is_done-done.ensures) cleared.works.went.keeps.sound
 
 pub remove-requires-clause-present : goal.remove-requires-clause-present
 remove-requires-clause-present g c =
     let ranges = subst IsInRange c.geometry-geometry.ensures c.keeps_ranges.ensures in
     let cleared = c.in_ok-reply.ensures in
-    still_indexed ranges c.in_ok-named.ensures.found c.in_ok-named.ensures.works.went.reaches c.in_ok-found.ensures.found c.in_ok-found.ensures.works.went.reaches c.in-Some.is c.in-Some-found.is
+    still_indexed c.args.id c.args.name.now ranges c.in_ok-named.ensures.found c.in_ok-named.ensures.works.went.reaches c.in_ok-found.ensures.found c.in_ok-found.ensures.works.went.reaches c.in-Some.is c.in-Some-found.is
     cleared.unlabelled cleared.works.went.reaches (rw c.if-not-done.false at c.is_done-done.ensures) c.requires.stands cleared.works.went.keeps.sound.writes_in_order
 
 pub returns-in_err-remove-clause-refused : goal.returns-in_err-remove-clause-refused
@@ -166,6 +166,6 @@ returns-clause-applied g c =
     let cleared = c.in_ok-reply.ensures in
     let removed = c.in_ok-remove.ensures in
     let done = rw c.if-not-done.false at c.is_done-done.ensures in
-    let did = untagged_applied ranges c.in_ok-named.ensures.found c.in_ok-named.ensures.works.went.reaches c.in_ok-found.ensures.found c.in_ok-found.ensures.works.went.reaches c.in-Some.is c.in-Some-found.is
+    let did = untagged_applied c.args.id c.args.name.now ranges c.in_ok-named.ensures.found c.in_ok-named.ensures.works.went.reaches c.in_ok-found.ensures.found c.in_ok-found.ensures.works.went.reaches c.in-Some.is c.in-Some-found.is
     cleared.unlabelled cleared.works.went.reaches removed.removed removed.works.went.reaches done c.requires.stands.ordered cleared.works.went.keeps.sound.writes_in_order removed.works.went.keeps.sound.writes_in_order in
     subst (λ (reply : Reply). AppliesCall (Untag c.args.id c.args.name.now) (g.S.Store.state c.args.store.now) (g.S.Store.state c.remove.new.store) reply) (sym done) did
