@@ -38,6 +38,7 @@ use Rattle.holder_codec.specs.Represents.{BucketsLead, IsSlot, IsUnreserved, Rep
 use Rattle.holder_codec.specs.Vertex.{IsVertexHolder, vertex_words}
 use Rattle.holder_codec.proofs.Leading.{represents_leads, vertex_fits, vertex_held}
 use Rattle.holder_codec.proofs.SizesAreLengths.{vertex_size}
+use Rattle.holder_codec.specs.declared.index_entry.IndexEntry.{IndexEntry}
 use Rattle.held_objects.specs.declared.change.Change.{Change}
 use Rattle.held_objects.specs.declared.change.Change.TheVariants.{Made, Refused}
 use Rattle.held_objects.specs.Changes.{Changes, IfMade, Tells, any}
@@ -283,7 +284,7 @@ module _ (id : ℕ) (name : Name) {old named : StoreState Noted} {label : Option
             let zero_more : 0 + n ≡ n = omega arith in
             let among : is_among 0 (length g.labels) n ≡ true = ap (is_among 0 (length g.labels)) (sym zero_more) ∙ is_among_all 0 (length g.labels) n less in
             let labelled = ap (λ o. option_map_or (λ (vertex : Vertex). has vertex.labels n) o false) (there store g is agrees) ∙ had_label store g is agrees done in
-            ap is_some (entry_for-tagged g (n, id) is.well_formed.vertices) ∙ λ i. is_some (cond (among i && labelled i) (Some (record { label = n; id = id })) None)
+            ap is_some (entry_for-tagged g (n, id) is.well_formed.vertices) ∙ λ i. is_some {T = IndexEntry} (cond (among i && labelled i) (Some (record { label = n; id = id })) None)
 
       pub still_indexed : reply ≡ Done → Knows Stands old → IsByRisingObject cleared.writes → Knows (Has (n, id)) cleared
       still_indexed done knows ordered_cleared = knows_after (stays-then looks.stays clearing.stays) ordered_cleared (λ store may agrees.
