@@ -48,19 +48,11 @@ use Rattle.graph_law.specs.Law.{Fits}
 use Rattle.graph_law.specs.Reach.{IsReached}
 use Rattle.graph_law.proofs.Counting.{makes_one}
 use Rattle.graph_law.proofs.Doing.{is_there, made_where_named}
-use Rattle.graph_law.proofs.Looking.{agrees_before, agrees_still, bucket_reached, is_led, left_applied}
+use Rattle.graph_law.proofs.Looking.{agrees_still, bucket_reached, left_applied}
 use Rattle.graph_law.proofs.Writing.{change_does}
+use Rattle.graph_vertices.proofs.Looking.{is_led}
+use Rattle.graph_vertices.proofs.VertexHere.{agrees_before}
 use Rattle.graph_changes.proofs.NewVertex.{found_here, new_is_fresh, new_vertex_change, touched_by}
-
--- ---- what is known before
-
-pub knows_leads : {N : Type 0} {state : StoreState N} → IsInRange state.shape → Knows Stands state → Knows Leads state
-knows_leads {N} {state} ranges knows = record {
-  always = λ store may.
-      let stands = knows.always store may in
-      record { vertices = stands.represents.vertices; led = represents_leads state.shape (overlay store state.writes) stands.graph stands.represents ranges };
-  ordered = knows.ordered;
-}
 
 -- ---- how the call ends
 

@@ -63,10 +63,10 @@ use Rattle.graph_law.specs.Calls.{AppliesCall, DoesCall, Stands}
 use Rattle.graph_law.specs.Law.{Fits}
 use Rattle.graph_law.specs.Reach.{IsReached}
 use Rattle.graph_law.proofs.Doing.{does_to, makes_no_more, stays_there}
-use Rattle.graph_law.proofs.Looking.{agrees_before, bucket_reached, left_applied, names_reached, vertex_reached}
+use Rattle.graph_law.proofs.Looking.{bucket_reached, left_applied, names_reached, vertex_reached}
+use Rattle.graph_vertices.proofs.VertexHere.{agrees_before, holder_is, led_to, none_here, object_here, place_here, vertex_here, words_here}
 use Rattle.graph_changes.proofs.Labelled.{labels_represented, made_as_before}
 use Rattle.graph_changes.proofs.NewVertex.{found_elsewhere}
-use Rattle.graph_changes.proofs.Temp.{holder_is, led_to, none_here, object_here, place_here, vertex_here, words_here}
 
 -- ---- how the call ends
 
@@ -125,14 +125,6 @@ knows_vertex {id} {object} {state} ranges knows leads = record {
       let stands = knows.always store may in
       let led = led_to ranges stands.represents id (leads.always store may) in
       record { part = held_with ranges stands.represents id led (vertex_here ranges stands.represents id led).0; has = holds_here ranges stands.represents id led; passed = refl };
-  ordered = knows.ordered;
-}
-
-pub knows_names : {N : Type 0} {state : StoreState N} → Knows Stands state → meta.KnowsNames any state
-knows_names {N} {state} knows = record {
-  always = λ store may.
-      let stands = knows.always store may in
-      record { part = names_of stands.graph; has = represents_names state.shape (overlay store state.writes) stands.graph stands.represents; passed = refl };
   ordered = knows.ordered;
 }
 

@@ -1,9 +1,6 @@
 -- A call that looks: what it answers, and what it read.
 use Rattle.std.proofs.Common.{◌≡◌, ◌∙◌, ℕ, ◌/◌, ◌+◌, ◌<◌, mod-lt, true, List, Some, None, IsSome, refl, sym, ap, subst, arith, ◌⊎◌, inl, inr}
 use Rattle.std.specs.Prelude.{is_some}
-use Rattle.std.specs.List.{list_any}
-use Rattle.std.specs.Ordering.{is_eq, nat_cmp}
-use Rattle.std.specs.FinMap.Entries.{is_some-find}
 use Rattle.gdi_kinds.specs.declared.call.Call.{Call}
 use Rattle.gdi_kinds.specs.declared.reply.Reply.{Reply}
 use Rattle.rma_layout.specs.Placement.{Place, bucket_of, home_of, metadata}
@@ -14,7 +11,6 @@ use Rattle.object_words.specs.Entries.{Entry, store_after}
 use Rattle.graph_model.specs.Calls.{graph_after_call, reply_to}
 use Rattle.graph_model.specs.Capacity.{OfVertex, Reserved}
 use Rattle.graph_model.specs.Graph.{Graph, is_vertex}
-use Rattle.graph_model.specs.Maps.{at}
 use Rattle.graph_model.specs.Transactions.{graph_after_txn}
 use Rattle.holder_codec.specs.Keeping.{keeps_by_steps}
 use Rattle.holder_codec.specs.Knowing.{MayBeAt}
@@ -36,15 +32,6 @@ pub may_be_here : {state : StoreState Noted} → IsInRange state.shape → IsSou
 may_be_here {state} ranges sound =
     let is = keeps_by_steps Fits (λ shape entry store g range fits is agrees. (graph_after_txn shape g entry.note.txn, (fits.at store g is agrees).represents)) state.shape state.seen ranges sound.fit sound.legal.reads in
     record { graph = is.0; represents = is.1; agrees = sound.agrees }
-
--- what was read later agrees with what was read before
-pub agrees_before : {N : Type 0} {old new : StoreState N} → StaysBegun old new → (store : Contents) → Agrees new.reads store → Agrees old.reads store
-agrees_before stays store agrees = λ object words is. agrees object words (stays.reads object words is)
-
--- the objects of vertices are those of the vertices that are there
-pub is_led : {shape : Shape} {contents : Contents} {g : Graph} (is : Represents shape contents g) (id : ℕ) → is_some (at is.vertices id) ≡ is_vertex g id
-is_led {shape} {contents} {g} is id =
-    is_some-find nat_cmp id is.vertices ∙ ap (list_any (λ q. is_eq (nat_cmp id q))) is.represented.vertex_keys ∙ sym (is_some-find nat_cmp id g.vertices)
 
 -- ---- what a call may reach
 

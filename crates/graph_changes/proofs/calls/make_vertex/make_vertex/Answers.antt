@@ -7,8 +7,9 @@ use Rattle.object_store.specs.Works.{Nowhere}
 use Rattle.object_store.proofs.Works.{fell_wider, made-fell, went_wider, went-fell, went-then}
 use Rattle.graph_law.specs.Calls.{MayMakeOn}
 use Rattle.graph_law.proofs.Doing.{refuses_none}
+use Rattle.graph_vertices.proofs.Looking.{knows_leads}
 use Rattle.graph_changes.specs.Touching.{IsPlaceFor}
-use Rattle.graph_changes.proofs.MakesVertex.{exists_applied, full_applied, knows_leads, making_refused, still_lacks, vertex_applied}
+use Rattle.graph_changes.proofs.MakesVertex.{exists_applied, full_applied, making_refused, still_lacks, vertex_applied}
 use Rattle.graph_changes.proofs.calls.make_vertex.make_vertex.Goals as goal
 
 pub find-requires-clause-leads : goal.find-requires-clause-leads

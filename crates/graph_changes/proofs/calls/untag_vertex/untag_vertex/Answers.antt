@@ -10,10 +10,11 @@ use Rattle.held_objects.proofs.Knows.{still}
 use Rattle.graph_law.specs.Calls.{AppliesCall}
 use Rattle.graph_law.proofs.Doing.{refuses_none}
 use Rattle.id_hash.specs.Buckets.{Finds}
+use Rattle.graph_names.proofs.NameCalls.{knows_names}
+use Rattle.graph_vertices.proofs.Looking.{knows_leads}
+use Rattle.graph_vertices.proofs.VertexHere.{is_block, is_unreserved}
 use Rattle.graph_changes.specs.Touching.{IsLabelPlaceFor}
-use Rattle.graph_changes.proofs.MakesVertex.{knows_leads}
-use Rattle.graph_changes.proofs.Temp.{is_block, is_unreserved}
-use Rattle.graph_changes.proofs.Untagging.{knows_names, knows_vertex, lacks_applied, no_label_applied, no_vertex_applied, still_indexed, untagged_applied}
+use Rattle.graph_changes.proofs.Untagging.{knows_vertex, lacks_applied, no_label_applied, no_vertex_applied, still_indexed, untagged_applied}
 use Rattle.graph_changes.proofs.calls.untag_vertex.untag_vertex.Goals as goal
 
 pub label-requires-clause-names : goal.label-requires-clause-names
