@@ -17,7 +17,7 @@ use Rattle.object_words.specs.Contents.{Contents, IsByRisingObject, content_of, 
 use Rattle.object_words.proofs.Overlays.{content-overlay, put_over}
 use Rattle.object_store.proofs.Counting.{total_same}
 use Rattle.graph_model.specs.Capacity.{OfVertex}
-use Rattle.graph_model.specs.Graph.{Graph, Vertex, is_vertex, vertex_at}
+use Rattle.graph_model.specs.Graph.{Graph, Vertex, vertex_at}
 use Rattle.graph_model.specs.Maps.{IsMap, Map, at, keys, with_at}
 use Rattle.graph_model.specs.Sizes.{most_words}
 use Rattle.graph_model.specs.VertexCalls.{with_vertex}

@@ -38,12 +38,12 @@ use Rattle.holder_codec.proofs.Leading.{bucket_is, buckets_fix_objects, represen
 use Rattle.holder_codec.proofs.Maps.{none_of}
 use Rattle.holder_codec.proofs.Parts.{buckets_kept}
 use Rattle.held_objects.specs.Knows.{Knows}
-use Rattle.id_hash.specs.Buckets.{Adds, Finds, IsBucketFor, Lacks, Leads, TellsRoom, takes_one_more}
+use Rattle.id_hash.specs.Buckets.{Adds, Finds, IsBucketFor, Lacks, TellsRoom, takes_one_more}
 use Rattle.id_hash.proofs.Knows.{known_elsewhere, unreserved_is_no_bucket}
 use Rattle.vertex_ops.specs.Vertices.{HomeOf, Makes, bare, holder_for}
 use Rattle.vertex_ops.proofs.LabelSets.{some_words}
 use Rattle.graph_law.specs.declared.law.Noted.{Noted}
-use Rattle.graph_law.specs.Calls.{AppliesCall, DoesCall, RefusesCall, Stands}
+use Rattle.graph_law.specs.Calls.{AppliesCall, DoesCall, RefusesCall}
 use Rattle.graph_law.specs.Law.{Fits}
 use Rattle.graph_law.specs.Reach.{IsReached}
 use Rattle.graph_law.proofs.Counting.{makes_one}

@@ -1,10 +1,8 @@
 -- The call that takes a label from a vertex does to a store what it does to the graph.
-use Rattle.std.proofs.Common.{◌≡◌, ◌≢◌, ◌∙◌, ℕ, ◌+◌, ◌<◌, ◌≤◌, Bool, true, false, not, cond, ◌&&◌, List, [], ◌∷◌, length, Option, Some, None, Err, IsSome, refl, sym, ap, subst, arith, ◌⊎◌, inl, inr}
+use Rattle.std.proofs.Common.{◌≡◌, ◌≢◌, ◌∙◌, ℕ, ◌+◌, ◌≤◌, Bool, true, false, not, cond, ◌&&◌, List, length, Option, Some, None, Err, IsSome, refl, sym, ap, subst, arith, ◌⊎◌, inl, inr}
 use Rattle.std.specs.Prelude.{IsSomeAnd, is_some, ◌==◌}
-use Rattle.std.specs.List.{AllByRecursion}
 use Rattle.std.specs.Option.{option_map_or}
 use Rattle.std.specs.Str.{bytes_eq}
-use Rattle.std.proofs.lemmas.Bool.{false≢true}
 use Rattle.std.proofs.lemmas.Bool.Decides.{nat_tests}
 use Rattle.gdi_kinds.specs.declared.call.Call.TheVariants.{Untag}
 use Rattle.gdi_kinds.specs.declared.reply.Reply.{Reply}
@@ -20,8 +18,8 @@ use Rattle.graph_model.specs.Calls.{graph_after_call, reply_to}
 use Rattle.graph_model.specs.Capacity.{Object, Reserved, OfVertex, OfHeavyEdge, is_object}
 use Rattle.graph_model.specs.Graph.{Graph, Name, PropType, Vertex, is_vertex, vertex_at}
 use Rattle.graph_model.specs.Lookups as graph
-use Rattle.graph_model.specs.Maps.{at, has, item_at, take_out, with_at}
-use Rattle.graph_model.specs.Sizes.{is_too_large, most_words, words_of_vertex}
+use Rattle.graph_model.specs.Maps.{at, has, item_at, take_out}
+use Rattle.graph_model.specs.Sizes.{is_too_large, most_words}
 use Rattle.graph_model.specs.Steps.{Answer, Step, ◌>>=◌, answer_of, found_or, leaves, refused_if}
 use Rattle.graph_model.specs.VertexCalls.{with_vertex}
 use Rattle.graph_model.specs.WellFormed.{AreValues}
@@ -35,18 +33,17 @@ use Rattle.object_store.proofs.Works.{looks-then}
 use Rattle.object_store.proofs.Working.{stays-then}
 use Rattle.holder_codec.specs.Parts.{IsSameAt}
 use Rattle.holder_codec.specs.Represents.{BucketsLead, IsSlot, IsUnreserved, Represents, holder_of, object_of, records_of}
-use Rattle.holder_codec.specs.Vertex.{IsVertexHolder, vertex_words}
-use Rattle.holder_codec.proofs.Leading.{represents_leads, vertex_fits, vertex_held}
+use Rattle.holder_codec.specs.Vertex.{vertex_words}
+use Rattle.holder_codec.proofs.Leading.{represents_leads, vertex_fits}
 use Rattle.holder_codec.proofs.SizesAreLengths.{vertex_size}
 use Rattle.holder_codec.specs.declared.index_entry.IndexEntry.{IndexEntry}
-use Rattle.held_objects.specs.declared.change.Change.{Change}
 use Rattle.held_objects.specs.declared.change.Change.TheVariants.{Made, Refused}
 use Rattle.held_objects.specs.Changes.{Changes, IfMade, Tells, any}
 use Rattle.held_objects.specs.Changes as held
 use Rattle.held_objects.specs.Knows.{Knows}
 use Rattle.held_objects.proofs.Knows.{knows_after}
 use Rattle.id_hash.specs.Buckets.{Finds, IsBucketFor, LeadsTo}
-use Rattle.label_index.specs.Entries.{entries_in, entry_for, slot_for, without_pair}
+use Rattle.label_index.specs.Entries.{entry_for, slot_for, without_pair}
 use Rattle.label_index.specs.Index.{Has, IsIndexed, IsSlotFor, Removes}
 use Rattle.label_index.specs.Tagged.{tagged}
 use Rattle.label_index.proofs.Retagged.{entry_for-tagged, has-take_out, index_untagged, is_among, is_among_all}
@@ -55,7 +52,7 @@ use Rattle.label_index.proofs.Tagged.{represents_indexed}
 use Rattle.meta_tables.specs.Names.{HasNames, names_of}
 use Rattle.meta_tables.specs.Names as meta
 use Rattle.meta_tables.proofs.Naming.{found_there, represents_names}
-use Rattle.vertex_ops.specs.Vertices.{HeldVertex, HoldsVertex, IsOrderly, KnowsVertex, holder_for, size, untagged}
+use Rattle.vertex_ops.specs.Vertices.{HeldVertex, HoldsVertex, KnowsVertex, holder_for, size, untagged}
 use Rattle.vertex_ops.proofs.LabelSets.{some_words}
 use Rattle.object_view.specs.View.{IsOn}
 use Rattle.graph_law.specs.declared.law.Noted.{Noted}

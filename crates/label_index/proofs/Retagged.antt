@@ -1,11 +1,11 @@
 -- The index of a graph in which a vertex has a label more or less.
-use Rattle.std.proofs.Common.{◌≡◌, ◌≢◌, ℕ, zero, suc, ◌+◌, ◌<◌, Bool, true, false, cond, not, eqb, ◌&&◌, ◌||◌, List, [], ◌∷◌, ◌++◌, map, length, Option, Some, None, refl, sym, ap, subst, ◌∙◌, arith}
+use Rattle.std.proofs.Common.{◌≡◌, ◌≢◌, ℕ, zero, suc, ◌+◌, ◌<◌, Bool, true, false, cond, not, eqb, ◌&&◌, ◌||◌, List, [], ◌∷◌, ◌++◌, map, length, Option, Some, None, refl, sym, ap, ◌∙◌, arith}
 use Rattle.std.specs.List.{filter, flat_map, range_with_len}
 use Rattle.std.specs.Option.{option_map_or, option_or}
 use Rattle.std.specs.Ordering.{nat_cmp, is_eq, is_lt, eq_by_cmp}
 use Rattle.std.specs.Cmp.{nat_cmp_total}
 use Rattle.std.specs.FinMap.{is_sorted}
-use Rattle.std.specs.FinMap.Entries.{below_all, find, find-put}
+use Rattle.std.specs.FinMap.Entries.{below_all, find-put}
 use Rattle.std.proofs.lemmas.Bool.{and_parts, false≢true}
 use Rattle.std.proofs.lemmas.Bool.Decides.{nat_tests}
 use Rattle.std.proofs.lemmas.List.Concat.{flat_map-cons}
@@ -24,7 +24,7 @@ use Rattle.rising_lists.proofs.Rising.{is_sorted-where, is_sorted-with_item, sam
 use Rattle.label_index.specs.Entries.{Pair, entry_for, is_pair, pair_cmp, pair_of, with_pair, without_pair}
 use Rattle.label_index.specs.Index.{IsIndexed}
 use Rattle.label_index.specs.Tagged.{tagged, tagged_with}
-use Rattle.label_index.proofs.Keys.{equal_is, pair_apart, pair_is, pair_itself, pair_same, pair_total, tied_pair}
+use Rattle.label_index.proofs.Keys.{equal_is, pair_same, pair_total, tied_pair}
 use Rattle.label_index.proofs.Slots.{entry_for-with, entry_for-without}
 use Rattle.label_index.proofs.Tagged.{rise_all, spelled_in}
 
