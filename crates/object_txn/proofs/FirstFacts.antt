@@ -10,7 +10,7 @@ use mathlib.Core.List.{IsPrefix}
 use Rattle.rma_layout.specs.Shape.{Shape}
 use Rattle.rma_layout.specs.Placement.{Place, IsBlock, IsReserved, same_place}
 use Rattle.object_words.specs.Blocks.{contents_use, contents_need, is_reserved, made_objects, grown_blocks, on_rank, one_if}
-use Rattle.object_words.specs.Contents.{Agrees, Contents, content_of, is_empty, overlay, words_at}
+use Rattle.object_words.specs.Contents.{Agrees, Contents, content_of, is_empty, overlay, with_words, words_at}
 use Rattle.object_words.specs.Entries.{EachEntry, Entry, HasBlocks, HasBlocksOnEach, contents_after, store_after}
 use Rattle.object_words.proofs.Places.{words_at_here}
 use Rattle.window_rule.specs.View.{View, OwnBlock}
@@ -35,6 +35,7 @@ use Rattle.object_txn.specs.Alone.{CountsBlocks, CountsFirst, IsMade, OwnsTaken,
 use Rattle.object_txn.specs.State.{free_on, has_no_spare, has_none, is_low, is_ready, most_told, on_each, tells, window_state}
 use Rattle.object_txn.specs.Tied.{HasTaken, HasWritten, IsTied, MayBeWritten}
 use Rattle.object_txn.proofs.AloneFacts.{owns_still, same_on}
+use Rattle.object_txn.proofs.Maps.{words_at_other}
 
 and_left : (a b : Bool) → (a && b) ≡ true → a ≡ true
 and_left true b h = refl
@@ -377,3 +378,12 @@ pub counts_opened : {N : Type 0} (fits : Shape → Entry N → Type 0) (shape : 
     → IsTrueView fits shape rank.view → rank.view.dirty ≡ [] → txn.taken.items ≡ [] → txn.reads ≡ [] → CountsFirst shape opened rank txn
 counts_opened fits shape opened rank txn same is clean none unread = λ first ready.
     counts_ready fits shape rank txn (ap (is_ready shape) (sym same) ∙ ready) is clean none unread
+
+-- what is written stays so where more is written
+pub still_written : (writes new : Contents) (object : Place) (words : List ℕ) → new ≡ with_words writes object words
+    → (block : Place) → words_at writes block ≢ None → words_at new block ≢ None
+still_written writes new object words is block written none = elim (place_cases block object) [
+  | inl here ↦ cc (sym (words_at_here writes object words) ∙ (ap (words_at (with_words writes object words)) (sym here)
+      ∙ (ap (λ (w : Contents). words_at w block) (sym is) ∙ none)))
+  | inr differ ↦ written (sym (words_at_other writes object words block differ) ∙ (ap (λ (w : Contents). words_at w block) (sym is) ∙ none))
+]

@@ -174,10 +174,12 @@ module _ (shape : Shape) (contents writes : Contents) where
     place_is = place_by_parts (on_rank object.rank object.block) object refl refl
 
     here_before : grown_at old object.rank object.block ≡ 0
-    here_before = ap (λ b. grows_if (is_some (words_at writes (on_rank object.rank object.block)))
-        (is_some (cond b (Some chain) (blocks_of more (on_rank object.rank object.block)))) _)
-        (ap (same_place object) place_is ∙ same_place-refl object)
-        ∙ never (is_some (words_at writes (on_rank object.rank object.block))) _
+    here_before =
+        let place = on_rank object.rank object.block in
+        let by = growth shape object.block (content_of contents place) (content_of writes place) in
+        let noted : is_some (blocks_of old place) ≡ true = ap (λ b. is_some (cond b (Some chain) (blocks_of more place)))
+        (ap (same_place object) place_is ∙ same_place-refl object) in
+        ap (λ left. grows_if (is_some (words_at writes place)) left by) noted ∙ never (is_some (words_at writes place)) by
       where
         never : (written : Bool) (by : ℕ) → grows_if written true by ≡ 0
         never true by = refl
@@ -188,7 +190,7 @@ module _ (shape : Shape) (contents writes : Contents) where
         (growth shape object.block (content_of contents p) (content_of writes p))) place_is
         ∙ (ap (λ l. grows_if (is_some (words_at writes object)) (is_some l)
         (growth shape object.block (content_of contents object) (content_of writes object))) alone
-        ∙ same (is_some (words_at writes object)) _)
+        ∙ same (is_some (words_at writes object)) (growth shape object.block (content_of contents object) (content_of writes object)))
       where
         same : (written : Bool) (by : ℕ) → grows_if written false by ≡ cond written by 0
         same true by = refl

@@ -70,7 +70,7 @@ firm fits shape opened before after old counts follows is spares =
     firm_clean fits shape opened before after old counts follows is (λ was. ap has_no_spare (spares was) ∙ was.owns.spares)
 
 module _ {N : Type 0} (fits : Shape → Entry N → Type 0) (window : WindowModel) (opened : RankModel N) where
-  known_agrees : (view : View N) → IsTrueView fits window.shape view → (object : Place) (words : List ℕ) (known : Option Known)
+  pub known_agrees : (view : View N) → IsTrueView fits window.shape view → (object : Place) (words : List ℕ) (known : Option Known)
       → known_of view.known object ≡ known → words_in known ≡ Some words → content_of (store_after view.seen) object ≡ words
   known_agrees view is object words None e h = absurd (cc h)
   known_agrees view is object words (Some known) e h = (is.knows object known e).1 ∙ some_is known.content words h

@@ -58,16 +58,20 @@ pub(crate) fn plan_writes<L: Law>(
     ensures follows { Follows rank.old.view rank.new.view }
 {
     rank.truths(window);
-    let plans = plan_all(
+    match plan_all(
         window,
         rank,
         alloc,
         &mut txn.chains,
         &txn.writes,
         &mut txn.taken,
-    )?;
-    rank.truths(window);
-    Ok(plans)
+    ) {
+        Ok(plans) => {
+            rank.truths(window);
+            Ok(plans)
+        }
+        Err(why) => Err(why),
+    }
 }
 
 /// The plans of all written objects, home rank after home rank.

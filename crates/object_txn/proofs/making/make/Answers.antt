@@ -187,3 +187,14 @@ returns-in-Err-clause-full g c = λ was named. absurd (elim c.in-Err.ensures.nam
   | inl nothing ↦ cc (sym nothing ∙ named)
   | inr object ↦ cc (sym object ∙ named)
 ])
+
+pub returns-clause-makes : goal.returns-clause-makes
+returns-clause-makes g c =
+    let at = c.in_ok-at.at in record {
+      free = c.in_ok-at.ensures.noted.free;
+      known = c.meet.ensures.known;
+      unwritten = unwritten_by c.args.window.now.shape c.args.txn.now at c.in_ok-at.ensures.noted.free c.in_ok-at.ensures.noted.unnoted c.requires.tied.writes c.meet.ensures.unread;
+      unread = c.meet.ensures.unread;
+      reads = c.in_ok-put-2.ensures.ok ∙ ap (with_words c.args.txn.now.reads at) c.new-2.ensures;
+      writes = c.in_ok-put-3.ensures.ok ∙ ap (with_words c.args.txn.now.writes at) c.new-3.ensures;
+    }

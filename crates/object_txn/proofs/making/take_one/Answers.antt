@@ -92,7 +92,6 @@ returns-in-Err-Empty-clause-alone g c = λ was.
     (ap (λ (v : View g.row.L-Note.Denot). v.private) c.in-Err-Empty.ensures.taken.unmoved) (ap exchanges c.in-Err-Empty.is)
     c.has_room.new.taken.items c.has_room.ensures.items
 
-
 pub returns-in-Err-PoolBusy-clause-alone : goal.returns-in-Err-PoolBusy-clause-alone
 returns-in-Err-PoolBusy-clause-alone g c = λ was.
     owns_none c.args.window.now.shape c.args.home c.args.rank.now c.take.new.rank c.args.taken.now.items was c.take.ensures.follows c.take.ensures.only
@@ -100,14 +99,12 @@ returns-in-Err-PoolBusy-clause-alone g c = λ was.
     (ap (λ (v : View g.row.L-Note.Denot). v.private) c.in-Err-PoolBusy.ensures.taken.unmoved) (ap exchanges c.in-Err-PoolBusy.is)
     c.has_room.new.taken.items c.has_room.ensures.items
 
-
 pub returns-in-Err-Worn-clause-alone : goal.returns-in-Err-Worn-clause-alone
 returns-in-Err-Worn-clause-alone g c = λ was.
     owns_none c.args.window.now.shape c.args.home c.args.rank.now c.take.new.rank c.args.taken.now.items was c.take.ensures.follows c.take.ensures.only
     c.take.result (c.take.ensures.alone was.alone) c.in-Err-Worn.ensures.taken.spares
     (ap (λ (v : View g.row.L-Note.Denot). v.private) c.in-Err-Worn.ensures.taken.unmoved) (ap exchanges c.in-Err-Worn.is)
     c.has_room.new.taken.items c.has_room.ensures.items
-
 
 pub returns-in-Err-Empty-clause-full : goal.returns-in-Err-Empty-clause-full
 returns-in-Err-Empty-clause-full g c = λ was _.
@@ -145,5 +142,9 @@ pub returns-in-Err-Worn-clause-none : goal.returns-in-Err-Worn-clause-none
 returns-in-Err-Worn-clause-none g c = λ was _.
     absurd (never_worn c.args.window.now.shape c.args.home c.args.rank.now c.take.new.rank c.args.taken.now.items was c.take.ensures.follows c.take.ensures.only
     c.take.result (c.take.ensures.alone was.alone) c.in-Err-Worn.head (c.in-Err-Worn.is ∙ ap Err c.in-Err-Worn.field-0-is) c.requires.home
-    (omega (arith, few_on c.args.window.now.shape c.args.home c.args.taken.now.items c.requires.taken.once c.requires.taken.blocks,
-    c.keeps_ranges.ensures.blocks, ap (λ s. s.blocks) c.geometry.ensures)))
+    (omega (
+      arith,
+      few_on c.args.window.now.shape c.args.home c.args.taken.now.items c.requires.taken.once c.requires.taken.blocks,
+      c.keeps_ranges.ensures.blocks,
+      ap (λ s. s.blocks) c.geometry.ensures,
+    )))

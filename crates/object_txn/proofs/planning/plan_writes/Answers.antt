@@ -20,16 +20,16 @@ plan_all-requires-clause-own g c =
     has_own_block g.L.Law.fits c.args.window.now c.truths.new.self c.args.txn.now c.truths.ensures.truths
     (tied_same c.args.window.now c.args.rank.now c.truths.new.self c.args.txn.now c.truths.ensures.window c.truths.ensures.spares c.truths.ensures.view c.requires.tied)
 
-pub returns-in_err-plans-clause-tied : goal.returns-in_err-plans-clause-tied
-returns-in_err-plans-clause-tied g c =
+pub returns-in-Err-clause-tied : goal.returns-in-Err-clause-tied
+returns-in-Err-clause-tied g c =
     let txn : Txn = record c.args.txn.now { chains = c.plan_all.new.chains } in
     tied_taken c.args.window.now c.truths.new.self c.plan_all.new.rank txn (record txn { taken = c.plan_all.new.taken })
     c.plan_all.ensures.window c.plan_all.ensures.only c.plan_all.ensures.taken c.plan_all.ensures.more c.requires.begun refl
     (tied_beside c.args.window.now c.truths.new.self c.args.txn.now c.plan_all.new.chains
     (tied_same c.args.window.now c.args.rank.now c.truths.new.self c.args.txn.now c.truths.ensures.window c.truths.ensures.spares c.truths.ensures.view c.requires.tied))
 
-pub returns-clause-tied : goal.returns-clause-tied
-returns-clause-tied g c =
+pub returns-in-Ok-clause-tied : goal.returns-in-Ok-clause-tied
+returns-in-Ok-clause-tied g c =
     let txn : Txn = record c.args.txn.now { chains = c.plan_all.new.chains } in
     let new : Txn = record txn { taken = c.plan_all.new.taken } in
     tied_same c.args.window.now c.plan_all.new.rank c.truths-2.new.self new c.truths-2.ensures.window c.truths-2.ensures.spares c.truths-2.ensures.view
@@ -38,31 +38,31 @@ returns-clause-tied g c =
     (tied_beside c.args.window.now c.truths.new.self c.args.txn.now c.plan_all.new.chains
     (tied_same c.args.window.now c.args.rank.now c.truths.new.self c.args.txn.now c.truths.ensures.window c.truths.ensures.spares c.truths.ensures.view c.requires.tied)))
 
-pub returns-clause-plans : goal.returns-clause-plans
-returns-clause-plans g c =
-    subst (λ (known : List (Place × Known)). AreAllPlans c.args.window.now.shape c.args.txn.now.writes known c.plan_all.new.taken.items c.in_ok-plans.plans.items)
+pub returns-in-Ok-clause-plans : goal.returns-in-Ok-clause-plans
+returns-in-Ok-clause-plans g c =
+    subst (λ (known : List (Place × Known)). AreAllPlans c.args.window.now.shape c.args.txn.now.writes known c.plan_all.new.taken.items c.in-Ok.plans.items)
     (sym (ap (λ (v : View g.row.L-Note.Denot). v.known) c.truths-2.ensures.view ∙ ap (λ (v : View g.row.L-Note.Denot). v.known) c.plan_all.ensures.only))
-    c.in_ok-plans.ensures.plans
+    c.in-Ok.ensures.plans
 
-pub returns-clause-gains : goal.returns-clause-gains
-returns-clause-gains g c = λ block.
+pub returns-in-Ok-clause-gains : goal.returns-in-Ok-clause-gains
+returns-in-Ok-clause-gains g c = λ block.
     omega (
       arith,
-      c.in_ok-plans.ensures.gains block,
+      c.in-Ok.ensures.gains block,
       ap (λ (v : View g.row.L-Note.Denot). times block (places_of v.private)) c.truths.ensures.view,
       ap (λ (v : View g.row.L-Note.Denot). times block (places_of v.private)) c.truths-2.ensures.view,
     )
 
-pub returns-in_err-plans-clause-owns : goal.returns-in_err-plans-clause-owns
-returns-in_err-plans-clause-owns g c = λ block.
+pub returns-in-Err-clause-owns : goal.returns-in-Err-clause-owns
+returns-in-Err-clause-owns g c = λ block.
     omega (
       arith,
       c.plan_all.ensures.owns block,
       ap (λ (v : View g.row.L-Note.Denot). times block (places_of v.private)) c.truths.ensures.view,
     )
 
-pub returns-clause-owns : goal.returns-clause-owns
-returns-clause-owns g c = λ block.
+pub returns-in-Ok-clause-owns : goal.returns-in-Ok-clause-owns
+returns-in-Ok-clause-owns g c = λ block.
     omega (
       arith,
       c.plan_all.ensures.owns block,
@@ -70,23 +70,23 @@ returns-clause-owns g c = λ block.
       ap (λ (v : View g.row.L-Note.Denot). times block (places_of v.private)) c.truths-2.ensures.view,
     )
 
-pub returns-in_err-plans-clause-alone : goal.returns-in_err-plans-clause-alone
-returns-in_err-plans-clause-alone g c = λ was. c.plan_all.ensures.alone
+pub returns-in-Err-clause-alone : goal.returns-in-Err-clause-alone
+returns-in-Err-clause-alone g c = λ was. c.plan_all.ensures.alone
     (subst (λ (r : RankModel g.row.L-Note.Denot). OwnsTaken c.args.window.now.shape r c.args.txn.now.taken.items)
     (sym (rank_by_parts c.truths.new.self c.args.rank.now c.truths.ensures.window c.truths.ensures.view c.truths.ensures.spares)) was)
 
-pub returns-clause-alone : goal.returns-clause-alone
-returns-clause-alone g c = λ was.
+pub returns-in-Ok-clause-alone : goal.returns-in-Ok-clause-alone
+returns-in-Ok-clause-alone g c = λ was.
     subst (λ (r : RankModel g.row.L-Note.Denot). OwnsTaken c.args.window.now.shape r c.plan_all.new.taken.items)
     (sym (rank_by_parts c.truths-2.new.self c.plan_all.new.rank c.truths-2.ensures.window c.truths-2.ensures.view c.truths-2.ensures.spares))
     (c.plan_all.ensures.alone
     (subst (λ (r : RankModel g.row.L-Note.Denot). OwnsTaken c.args.window.now.shape r c.args.txn.now.taken.items)
     (sym (rank_by_parts c.truths.new.self c.args.rank.now c.truths.ensures.window c.truths.ensures.view c.truths.ensures.spares)) was))
 
-pub returns-in_err-plans-clause-stops : goal.returns-in_err-plans-clause-stops
-returns-in_err-plans-clause-stops g c = λ was home named.
+pub returns-in-Err-clause-stops : goal.returns-in-Err-clause-stops
+returns-in-Err-clause-stops g c = λ was home named.
     subst (λ (v : View g.row.L-Note.Denot). StopsAt c.args.window.now.shape (store_after v.seen) c.args.txn.now.writes c.args.txn.now.taken.items c.plan_all.new.taken.items
     c.plan_all.new.rank.view home) c.truths.ensures.view
-    (c.in_err-plans.ensures.stops
+    (c.in-Err.ensures.stops
     (subst (λ (r : RankModel g.row.L-Note.Denot). OwnsTaken c.args.window.now.shape r c.args.txn.now.taken.items)
     (sym (rank_by_parts c.truths.new.self c.args.rank.now c.truths.ensures.window c.truths.ensures.view c.truths.ensures.spares)) was) home named)

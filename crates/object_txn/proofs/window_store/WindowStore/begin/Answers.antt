@@ -3,8 +3,8 @@ use Rattle.window_rule.specs.View.{OfGate}
 use Rattle.window_rule.specs.Trails.{Follows}
 use Rattle.object_txn.specs.Tied.{IsTied}
 use Rattle.object_store.specs.declared.phase.Phase.TheVariants.{Reading, Writing}
-use Rattle.object_txn.proofs.FirstFacts.{counts_told}
-use Rattle.object_txn.proofs.StoreFacts.{begins, continues, firm, refuses_begin}
+use Rattle.object_txn.proofs.FirstFacts.{counts_told, first_kept}
+use Rattle.object_txn.proofs.StoreFacts.{begins, continues, firm, refuses_begin, tied_agrees}
 use Rattle.lock_words.specs.declared.want.Want.TheVariants.{Writer}
 use Rattle.object_txn.specs.declared.refused.TxnRefused.TheVariants.{GateBusy}
 use Rattle.object_txn.specs.declared.txn.Txn.{Txn}
@@ -64,3 +64,16 @@ returns-2-clause-done g c =
     begins g.L.Law.fits self.window.now self.opened.value self.rank c.truths-2.new.self self.txn txn follows
     (firm g.L.Law.fits self.window.now.shape self.opened.value self.rank c.truths-2.new.self self.txn self.counts follows c.truths-2.ensures.truths (λ _. spares))
     c.args.writing phase (self.tied.phase.reads c.requires) (self.tied.phase.writes c.requires) refl
+
+pub invariant_of-self-2-clause-counts : goal.invariant_of-self-2-clause-counts
+invariant_of-self-2-clause-counts g c =
+    let self = c.args.self.now in
+    let txn : Txn = record { first = self.txn.first; phase = c.if-writing-2.self; reads = self.txn.reads; writes = self.txn.writes; held = self.txn.held; chains = self.txn.chains; taken = self.txn.taken } in
+    let follows : Follows self.rank.view c.truths-2.new.self.view = search rules in
+    let tied : IsTied self.window.now c.truths-2.new.self txn = search rules in
+    let spares : c.truths-2.new.self.spares ≡ self.rank.spares = search rules in
+    let own : c.truths-2.new.self.view.private ≡ self.rank.view.private = search rules in
+    let bounds : c.truths-2.new.self.view.bounds ≡ self.rank.view.bounds = search rules in
+    first_kept g.L.Law.fits self.window.now.shape self.opened.value self.rank c.truths-2.new.self self.txn txn self.counts follows c.truths-2.ensures.truths
+    (tied_agrees g.L.Law.fits self.window.now self.opened.value c.truths-2.new.self txn c.truths-2.ensures.truths tied)
+    tied.closed.clean spares own bounds refl refl (λ block written. written)

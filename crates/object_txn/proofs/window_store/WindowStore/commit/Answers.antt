@@ -1,6 +1,6 @@
 use Rattle.std.proofs.Common.{◌≢◌, ◌<◌, arith, List, [], ◌∙◌, sym, ap, subst}
 use Rattle.object_words.specs.Contents.{content_of}
-use Rattle.window_rule.specs.View.{OwnBlock}
+use Rattle.window_rule.specs.View.{OwnBlock, View}
 use Rattle.rma_layout.specs.Ranges.{IsInRange}
 use Rattle.rma_layout.specs.declared.word.Word.TheVariants.{Commit}
 use Rattle.window_rule.specs.Partition.{places_of, times}
@@ -47,6 +47,10 @@ returns-in-Err-clause-recalls g c =
     recalls_by self.rank.view c.end_all.new.rank.view
     (follows_trans self.rank.view c.place-place.new.self.view c.end_all.new.rank.view
     (follows_trans self.rank.view c.plan_writes.new.rank.view c.place-place.new.self.view c.plan_writes.ensures.follows c.place-place.ensures.follows) c.end_all.ensures.follows)
+
+pub returns-in-Err-clause-alone : goal.returns-in-Err-clause-alone
+returns-in-Err-clause-alone g c = λ alone.
+    never_for_others c.args.self.now.window.now.shape c.args.self.now.rank.view c.end_all.new.rank.view c.in-Err.why (returns-in-Err-clause-explained g c) alone
 
 pub returns-in-Err-clause-refused : goal.returns-in-Err-clause-refused
 returns-in-Err-clause-refused g c =
@@ -127,10 +131,6 @@ returns-in-Ok-clause-keeps g c =
       owns_small self.window.now.shape c.plan_writes.new.rank c.plan_writes.new.txn.taken.items c.plan_writes.ensures.tied.taken owns home below,
     )) ∙ c.write_planned-number.ensures.spares) ∙ owns.spares)
 
-pub returns-in-Err-clause-alone : goal.returns-in-Err-clause-alone
-returns-in-Err-clause-alone g c = λ alone.
-    never_for_others c.args.self.now.window.now.shape c.args.self.now.rank.view c.end_all.new.rank.view c.in-Err.why (returns-in-Err-clause-explained g c) alone
-
 pub returns-in-Ok-clause-given : goal.returns-in-Ok-clause-given
 returns-in-Ok-clause-given g c =
     let back = c.leave_committed.ensures.given in record {
@@ -174,6 +174,7 @@ returns-in-Err-clause-given_back g c =
         arith,
         c.plan_writes.ensures.owns block,
         ap (λ (own : List OwnBlock). times block (places_of own)) back.private,
+        ap (λ (v : View g.row.L-Note.Denot). times block (places_of v.private)) c.place-place.ensures.view.view,
       );
       given = back.given;
     }

@@ -1,4 +1,10 @@
-use Rattle.std.proofs.Common.{arith, List, ap, ◌∙◌, rules, sym, subst}
+use Rattle.std.proofs.Common.{arith, List, [], ap, ◌∙◌, refl, rules, sym, subst}
+use Rattle.object_words.specs.Contents.{Contents, words_at}
+use Rattle.object_words.proofs.Places.{words_at_here}
+use Rattle.fabric.specs.Window.{RankModel}
+use Rattle.window_rule.specs.Known.{known_of}
+use Rattle.object_txn.specs.Alone.{OwnsTaken}
+use Rattle.object_txn.proofs.EndingFacts.{rank_by_parts}
 use Rattle.window_rule.specs.View.{View, OwnBlock}
 use Rattle.window_rule.specs.Partition.{places_of, times}
 use Rattle.window_rule.specs.Trails.{Follows}
@@ -6,8 +12,8 @@ use Rattle.window_rule.proofs.Trails.{follows_trans}
 use Rattle.object_txn.specs.Tied.{IsTied}
 use Rattle.object_txn.specs.Moves.{Makes}
 use Rattle.object_txn.specs.State.{has_no_spare}
-use Rattle.object_txn.proofs.FirstFacts.{all_free, counts_told, some_free}
-use Rattle.object_txn.proofs.StoreFacts.{continues, firm_clean, makes_object, refuses_fresh}
+use Rattle.object_txn.proofs.FirstFacts.{all_free, counts_made, counts_told, some_free, still_written}
+use Rattle.object_txn.proofs.StoreFacts.{continues, firm_clean, known_agrees, makes_object, refuses_fresh, tied_agrees}
 use Rattle.object_txn.proofs.Explaining.{explains_later, never_for_others}
 use Rattle.object_txn.proofs.window_store.WindowStore.fresh.Goals as goal
 
@@ -82,3 +88,23 @@ returns-in-Err-clause-refused g c =
     (λ told named.
     let was = counts_told self.window.now.shape self.opened.value self.rank self.txn self.counts told in
     all_free self.window.now self.rank self.txn was self.tied c.args.home (c.in-Err.ensures.full was.owns named))
+
+pub invariant_of-self-clause-counts : goal.invariant_of-self-clause-counts
+invariant_of-self-clause-counts g c = λ first ready.
+    let self = c.args.self.now in
+    let now = c.truths.new.self in
+    let follows : Follows self.rank.view now.view = search rules in
+    let tied : IsTied self.window.now now c.make.new.txn = search rules in
+    let was = self.counts (sym c.make.ensures.first ∙ first) ready in
+    let makes = subst (λ (v : View g.row.L-Note.Denot). Makes self.window.now.shape c.args.home v self.txn c.make.new.txn c.in-Ok.at) (sym c.truths.ensures.view) c.in-Ok.ensures.makes in
+    counts_made g.L.Law.fits self.window.now.shape self.rank now self.txn c.make.new.txn was follows c.truths.ensures.truths
+    (tied_agrees g.L.Law.fits self.window.now self.opened.value now c.make.new.txn c.truths.ensures.truths tied)
+    c.in-Ok.at c.in-Ok.ensures.gains
+    (subst (λ (r : RankModel g.row.L-Note.Denot). OwnsTaken self.window.now.shape r c.make.new.txn.taken.items)
+    (sym (rank_by_parts now c.make.new.rank c.truths.ensures.window c.truths.ensures.view c.truths.ensures.spares)) (c.make.ensures.alone was.owns))
+    (still_written self.txn.writes c.make.new.txn.writes c.in-Ok.at [] makes.writes)
+    (record {
+      written = λ none. cc (sym (words_at_here self.txn.writes c.in-Ok.at []) ∙ (ap (λ (w : Contents). words_at w c.in-Ok.at) (sym makes.writes) ∙ none));
+      unreserved = makes.free.unreserved;
+      empty = known_agrees g.L.Law.fits self.window.now self.opened.value now.view c.truths.ensures.truths c.in-Ok.at [] (known_of now.view.known c.in-Ok.at) refl makes.known;
+    })

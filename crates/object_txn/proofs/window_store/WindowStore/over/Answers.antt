@@ -15,3 +15,9 @@ returns-clause-told g c = λ alone none own low.
     (ap (is_ready c.args.window.now.shape) (c.of-opened.ensures
     ∙ rank_by_parts c.truths.new.self c.args.rank c.truths.ensures.window c.truths.ensures.view c.truths.ensures.spares)
     ∙ ready_by c.args.window.now.shape c.args.rank alone none own low)
+
+pub invariant_of-result-clause-counts : goal.invariant_of-result-clause-counts
+invariant_of-result-clause-counts g c =
+    counts_opened g.L.Law.fits c.args.window.now.shape c.of-opened.result.value c.truths.new.self c.none.result c.of-opened.ensures c.truths.ensures.truths
+    (ap (λ (v : View g.row.L-Note.Denot). v.dirty) c.truths.ensures.view ∙ c.requires.free.closed.clean)
+    c.none.ensures.none.taken c.none.ensures.none.reads

@@ -1,4 +1,5 @@
-use Rattle.std.proofs.Common.{rules, List, sym, ap, ◌∙◌, subst}
+use Rattle.std.proofs.Common.{◌≢◌, None, rules, List, sym, ap, ◌∙◌, subst}
+use Rattle.object_words.specs.Contents.{Contents, words_at}
 use Rattle.window_rule.specs.View.{View}
 use Rattle.object_txn.specs.Moves.{Reads}
 use Rattle.window_rule.specs.Trails.{Follows}
@@ -6,8 +7,8 @@ use Rattle.window_rule.proofs.Trails.{follows_trans}
 use Rattle.rma_layout.specs.Placement.{Place}
 use Rattle.object_txn.specs.Endings.{GivesEach}
 use Rattle.object_txn.specs.Tied.{IsTied}
-use Rattle.object_txn.proofs.FirstFacts.{counts_told, owns_beside}
-use Rattle.object_txn.proofs.StoreFacts.{continues, firm, reads_object, refuses_access}
+use Rattle.object_txn.proofs.FirstFacts.{counts_told, first_kept, owns_beside}
+use Rattle.object_txn.proofs.StoreFacts.{continues, firm, reads_object, refuses_access, tied_agrees}
 use Rattle.object_txn.proofs.Explaining.{explains_later, never_for_others}
 use Rattle.object_txn.proofs.window_store.WindowStore.read.Goals as goal
 
@@ -73,3 +74,17 @@ returns-in-Ok-clause-done g c =
     c.args.at c.in-Ok.words c.truths.ensures.truths
     (subst (λ (v : View g.row.L-Note.Denot). Reads c.args.at v self.txn c.read_at.new.txn c.in-Ok.words) (sym c.truths.ensures.view) c.in-Ok.ensures.reads)
     c.read_at.ensures.phase c.read_at.ensures.writes c.read_at.ensures.first
+
+pub invariant_of-self-clause-counts : goal.invariant_of-self-clause-counts
+invariant_of-self-clause-counts g c =
+    let self = c.args.self.now in
+    let now = c.truths.new.self in
+    let follows : Follows self.rank.view now.view = search rules in
+    let tied : IsTied self.window.now now c.read_at.new.txn = search rules in
+    first_kept g.L.Law.fits self.window.now.shape self.opened.value self.rank now self.txn c.read_at.new.txn self.counts follows c.truths.ensures.truths
+    (tied_agrees g.L.Law.fits self.window.now self.opened.value now c.read_at.new.txn c.truths.ensures.truths tied)
+    tied.closed.clean (c.truths.ensures.spares ∙ c.read_at.ensures.spares)
+    (ap (λ (v : View g.row.L-Note.Denot). v.private) c.truths.ensures.view ∙ c.read_at.ensures.private)
+    (ap (λ (v : View g.row.L-Note.Denot). v.bounds) c.truths.ensures.view ∙ c.read_at.ensures.bounds)
+    c.read_at.ensures.taken c.read_at.ensures.first
+    (λ block written. subst (λ (w : Contents). words_at w block ≢ None) (sym c.read_at.ensures.writes) written)

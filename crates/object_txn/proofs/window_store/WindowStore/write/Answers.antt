@@ -1,11 +1,12 @@
 use Rattle.std.proofs.Common.{rules, List, ap, ◌∙◌, subst}
+use Rattle.window_rule.specs.View.{View}
 use Rattle.window_rule.specs.Trails.{Follows}
 use Rattle.window_rule.proofs.Trails.{follows_trans}
 use Rattle.rma_layout.specs.Placement.{Place}
 use Rattle.object_txn.specs.Endings.{GivesEach}
 use Rattle.object_txn.specs.Tied.{IsTied}
-use Rattle.object_txn.proofs.FirstFacts.{counts_told, owns_beside}
-use Rattle.object_txn.proofs.StoreFacts.{continues, firm, may_be_written, refuses_access, writes_object}
+use Rattle.object_txn.proofs.FirstFacts.{counts_told, first_kept, owns_beside, still_written}
+use Rattle.object_txn.proofs.StoreFacts.{continues, firm, may_be_written, refuses_access, tied_agrees, writes_object}
 use Rattle.object_txn.proofs.Explaining.{explains_later, never_for_others}
 use Rattle.object_txn.proofs.window_store.WindowStore.write.Goals as goal
 
@@ -74,3 +75,17 @@ returns-in-Ok-clause-done g c =
     (firm g.L.Law.fits self.window.now.shape self.opened.value self.rank c.truths.new.self self.txn self.counts follows c.truths.ensures.truths
     (λ _. c.truths.ensures.spares ∙ c.write_at.ensures.spares))
     c.args.at c.args.words c.write_at.ensures.reads c.in-Ok.ensures.writes c.write_at.ensures.phase c.write_at.ensures.first
+
+pub invariant_of-self-clause-counts : goal.invariant_of-self-clause-counts
+invariant_of-self-clause-counts g c =
+    let self = c.args.self.now in
+    let now = c.truths.new.self in
+    let follows : Follows self.rank.view now.view = search rules in
+    let tied : IsTied self.window.now now c.write_at.new.txn = search rules in
+    first_kept g.L.Law.fits self.window.now.shape self.opened.value self.rank now self.txn c.write_at.new.txn self.counts follows c.truths.ensures.truths
+    (tied_agrees g.L.Law.fits self.window.now self.opened.value now c.write_at.new.txn c.truths.ensures.truths tied)
+    tied.closed.clean (c.truths.ensures.spares ∙ c.write_at.ensures.spares)
+    (ap (λ (v : View g.row.L-Note.Denot). v.private) c.truths.ensures.view ∙ c.write_at.ensures.private)
+    (ap (λ (v : View g.row.L-Note.Denot). v.bounds) c.truths.ensures.view ∙ c.write_at.ensures.bounds)
+    c.write_at.ensures.taken c.write_at.ensures.first
+    (still_written self.txn.writes c.write_at.new.txn.writes c.args.at c.args.words c.in-Ok.ensures.writes)
