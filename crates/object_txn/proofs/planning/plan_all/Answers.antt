@@ -44,7 +44,7 @@ loop-at-preserved g c =
       only = taken-then c.args.rank.now.view c.loop-at.rank.view c.plan_next.new.rank.view old.only c.plan_next.ensures.only;
       owns = λ block. omega (arith, old.owns block, c.plan_next.ensures.owns block);
       alone = λ was. c.plan_next.ensures.alone (old.alone was);
-      counts = planned_on c.args.window.now.shape (store_after c.args.rank.now.view.seen) c.args.writes.now _ _ more (plan_next-requires-clause-object g c) c.in-Some.ensures.once
+      counts = planned_on c.args.window.now.shape (store_after c.args.rank.now.view.seen) c.args.writes.now _ _ more (first_known _ _ known (λ one is. (c.requires.truths.knows _ one is).0)) c.in-Some.ensures.once
           (chain_full g.L.Law.fits c.args.window.now.shape c.args.rank.now.view c.requires.truths _ _ known) c.args.taken.now.items c.loop-at.taken.items c.plan_next.new.taken.items
           c.loop-at.plans.items c.plan_next.new.plans.items c.in_default-plan_next.ensures.next
           (λ rank. subst (λ (l : Chains). count_on rank c.loop-at.taken.items ≡ count_on rank c.args.taken.now.items
@@ -104,9 +104,13 @@ returns-in-Err-clause-stops g c = λ was home named.
     let named_here = named ∙ ap names_rank (sym here) in
     let falls = c.in-Err.ensures.short named_here in
     subst (StopsAt c.args.window.now.shape (store_after c.args.rank.now.view.seen) c.args.writes.now c.args.taken.now.items c.plan_next.new.taken.items c.plan_next.new.rank.view) here
-    (stops_here c.args.window.now.shape (store_after c.args.rank.now.view.seen) c.args.writes.now _ _ more (plan_next-requires-clause-object g c) c.in-Some.ensures.once
+    (stops_here c.args.window.now.shape (store_after c.args.rank.now.view.seen) c.args.writes.now _ _ more (first_known _ _ known (λ one is. (c.requires.truths.knows _ one is).0)) c.in-Some.ensures.once
     (chain_full g.L.Law.fits c.args.window.now.shape c.args.rank.now.view c.requires.truths _ _ known) c.args.taken.now.items c.loop-at.taken.items c.plan_next.new.taken.items
     c.plan_next.new.rank.view falls.0 falls.1
     (λ rank. subst (λ (l : Chains). count_on rank c.loop-at.taken.items ≡ count_on rank c.args.taken.now.items
     + grown_but c.args.window.now.shape (store_after c.args.rank.now.view.seen) c.args.writes.now l rank) c.in-Some.ensures.some (old.counts rank))
     c.in-Some.ensures.rising (c.in-Err.ensures.full (old.alone was) named_here))
+
+pub returns-in-Err-clause-follows : goal.returns-in-Err-clause-follows
+returns-in-Err-clause-follows g c =
+    follows_trans c.args.rank.now.view c.loop-at.rank.view c.plan_next.new.rank.view c.loop-at.invariant.follows c.plan_next.ensures.follows

@@ -32,7 +32,7 @@ pub returns-in-Ok-clause-tied : goal.returns-in-Ok-clause-tied
 returns-in-Ok-clause-tied g c =
     let txn : Txn = record c.args.txn.now { chains = c.plan_all.new.chains } in
     let new : Txn = record txn { taken = c.plan_all.new.taken } in
-    tied_same c.args.window.now c.plan_all.new.rank c.truths-2.new.self new c.truths-2.ensures.window c.truths-2.ensures.spares c.truths-2.ensures.view
+    tied_same c.args.window.now c.plan_all.new.rank c.truths-in-Ok.new.self new c.truths-in-Ok.ensures.window c.truths-in-Ok.ensures.spares c.truths-in-Ok.ensures.view
     (tied_taken c.args.window.now c.truths.new.self c.plan_all.new.rank txn new
     c.plan_all.ensures.window c.plan_all.ensures.only c.plan_all.ensures.taken c.plan_all.ensures.more c.requires.begun refl
     (tied_beside c.args.window.now c.truths.new.self c.args.txn.now c.plan_all.new.chains
@@ -41,7 +41,7 @@ returns-in-Ok-clause-tied g c =
 pub returns-in-Ok-clause-plans : goal.returns-in-Ok-clause-plans
 returns-in-Ok-clause-plans g c =
     subst (λ (known : List (Place × Known)). AreAllPlans c.args.window.now.shape c.args.txn.now.writes known c.plan_all.new.taken.items c.in-Ok.plans.items)
-    (sym (ap (λ (v : View g.row.L-Note.Denot). v.known) c.truths-2.ensures.view ∙ ap (λ (v : View g.row.L-Note.Denot). v.known) c.plan_all.ensures.only))
+    (sym (ap (λ (v : View g.row.L-Note.Denot). v.known) c.truths-in-Ok.ensures.view ∙ ap (λ (v : View g.row.L-Note.Denot). v.known) c.plan_all.ensures.only))
     c.in-Ok.ensures.plans
 
 pub returns-in-Ok-clause-gains : goal.returns-in-Ok-clause-gains
@@ -50,7 +50,7 @@ returns-in-Ok-clause-gains g c = λ block.
       arith,
       c.in-Ok.ensures.gains block,
       ap (λ (v : View g.row.L-Note.Denot). times block (places_of v.private)) c.truths.ensures.view,
-      ap (λ (v : View g.row.L-Note.Denot). times block (places_of v.private)) c.truths-2.ensures.view,
+      ap (λ (v : View g.row.L-Note.Denot). times block (places_of v.private)) c.truths-in-Ok.ensures.view,
     )
 
 pub returns-in-Err-clause-owns : goal.returns-in-Err-clause-owns
@@ -67,7 +67,7 @@ returns-in-Ok-clause-owns g c = λ block.
       arith,
       c.plan_all.ensures.owns block,
       ap (λ (v : View g.row.L-Note.Denot). times block (places_of v.private)) c.truths.ensures.view,
-      ap (λ (v : View g.row.L-Note.Denot). times block (places_of v.private)) c.truths-2.ensures.view,
+      ap (λ (v : View g.row.L-Note.Denot). times block (places_of v.private)) c.truths-in-Ok.ensures.view,
     )
 
 pub returns-in-Err-clause-alone : goal.returns-in-Err-clause-alone
@@ -78,7 +78,7 @@ returns-in-Err-clause-alone g c = λ was. c.plan_all.ensures.alone
 pub returns-in-Ok-clause-alone : goal.returns-in-Ok-clause-alone
 returns-in-Ok-clause-alone g c = λ was.
     subst (λ (r : RankModel g.row.L-Note.Denot). OwnsTaken c.args.window.now.shape r c.plan_all.new.taken.items)
-    (sym (rank_by_parts c.truths-2.new.self c.plan_all.new.rank c.truths-2.ensures.window c.truths-2.ensures.view c.truths-2.ensures.spares))
+    (sym (rank_by_parts c.truths-in-Ok.new.self c.plan_all.new.rank c.truths-in-Ok.ensures.window c.truths-in-Ok.ensures.view c.truths-in-Ok.ensures.spares))
     (c.plan_all.ensures.alone
     (subst (λ (r : RankModel g.row.L-Note.Denot). OwnsTaken c.args.window.now.shape r c.args.txn.now.taken.items)
     (sym (rank_by_parts c.truths.new.self c.args.rank.now c.truths.ensures.window c.truths.ensures.view c.truths.ensures.spares)) was))
