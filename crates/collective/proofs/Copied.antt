@@ -1,5 +1,5 @@
 -- What a rank that looks at the whole window has read is what the graph has.
-use Rattle.std.proofs.Common.{◌≡◌, ◌≢◌, ℕ, ◌+◌, ◌*◌, ◌<◌, arith, List, [], ◌∷◌, ◌++◌, map, refl, sym, ap, ◌∙◌, subst, Option, Some, None, IsSome}
+use Rattle.std.proofs.Common.{◌≡◌, ◌≢◌, ℕ, ◌+◌, ◌*◌, ◌<◌, arith, List, [], ◌∷◌, ◌++◌, map, refl, sym, ap, ◌∙◌, subst, Option, Some, None, IsSome, Result, Ok, Err, IfOk, OnOk}
 use Rattle.std.specs.List.{AllByRecursion, flat_map, range_with_len}
 use Rattle.rma_layout.specs.Shape.{Shape}
 use Rattle.rma_layout.specs.Ranges.{IsInRange}
@@ -76,6 +76,14 @@ flat_entries : (f : ℕ → BucketHolder) (g : ℕ → Place) (shape : Shape) (v
     → entries_in (map f ns) ≡ flat_map (entries_of shape vertices) (map g ns)
 flat_entries f g shape vertices same [] = refl
 flat_entries f g shape vertices same (n ∷ ns) = λ i. same n i ++ flat_entries f g shape vertices same ns i
+
+pub if_ok : {T E : Type 0} {P Q : T → Type 0} (r : Result T E) → IfOk r P → ((t : T) → P t → Q t) → IfOk r Q
+if_ok (Ok t) is each = each t is
+if_ok (Err e) is each = tt
+
+pub on_ok : {T E : Type 0} {Q : Type 0} (r : Result T E) → Q → OnOk r Q
+on_ok (Ok t) is = is
+on_ok (Err e) is = tt
 
 -- ---- from phase to phase
 

@@ -61,9 +61,9 @@ module _ (vertices : VertexObjects) where
   sorted-in_order (e ∷ es) objects sorted =
       sorted-in_order es (with_at objects e.id e.at) (of_T _ (is_sorted-put nat_cmp nat_cmp_total e.id e.at objects (to_T _ sorted)))
 
-either_none : (b : Bool) (none : Option Place) → none ≡ None → cond b none None ≡ None
-either_none true none is = is
-either_none false none is = refl
+either_none : (b : Bool) (found : Option Place) → found ≡ None → cond b found None ≡ None
+either_none true found is = is
+either_none false found is = refl
 
 -- ---- each vertex is in its bucket
 

@@ -3,3 +3,4 @@ pub mod InOrder
 pub mod EdgesFrom
 pub mod Standing
 pub mod Copied
+pub mod Taken

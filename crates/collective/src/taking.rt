@@ -7,6 +7,7 @@ ghost use Rattle.collective.specs.Taking.{Left, Refuses, Takes, is_for_others};
 use crate::copying::copy;
 use crate::snap_refused::SnapRefused;
 use fabric::{Rank, Window};
+use gdi_kinds::NoMemory;
 use holder_codec::KeepsGraph;
 use snapshots::Snapshot;
 use std::alloc::Global;
@@ -40,6 +41,8 @@ pub fn snapshot<L: KeepsGraph>(
     let copied = copy(alloc, window, rank);
     let place = rank.place(window);
     rank.all_leave(window);
-    let lists = copied?;
-    Ok(Snapshot::of(place, lists.meta, lists.vertices, lists.edges))
+    match copied {
+        Ok(lists) => Ok(Snapshot::of(place, lists.meta, lists.vertices, lists.edges)),
+        Err(NoMemory) => Err(SnapRefused::NoMemory),
+    }
 }
