@@ -1,5 +1,5 @@
 -- Blocks are taken by a rank that is alone, whose own blocks are those that it took.
-use Rattle.std.proofs.Common.{◌≡◌, ◌≢◌, ℕ, zero, suc, ◌+◌, ◌-◌, ◌^◌, ◌<◌, ◌≤◌, ◌==◌, ◌&&◌, Bool, true, false, cond, List, [], ◌∷◌, ◌++◌, length, get_or, refl, sym, ap, ◌∙◌, subst, inl, inr, ◌⊎◌, arith, Option, Some, None, Result, Ok, Err}
+use Rattle.std.proofs.Common.{◌≡◌, ◌≢◌, ℕ, zero, suc, ◌+◌, ◌-◌, ◌^◌, ◌<◌, ◌≤◌, ◌==◌, true, List, [], ◌∷◌, ◌++◌, get_or, refl, sym, ap, ◌∙◌, subst, inl, inr, ◌⊎◌, arith, Option, Some, None, Result, Ok, Err}
 use Rattle.std.specs.List.{list_all}
 use Rattle.std.specs.Option.{unwrap_or}
 use Rattle.std.proofs.lemmas.Bool.{cases_eq}
@@ -11,7 +11,7 @@ use Rattle.object_words.specs.Entries.{store_after}
 use Rattle.window_rule.specs.View.{View, OwnBlock}
 use Rattle.window_rule.specs.Partition.{places_of, times}
 use Rattle.window_rule.specs.Pool.{bound_of}
-use Rattle.window_rule.specs.RoomHolds.{count_on, sum_below}
+use Rattle.window_rule.specs.RoomHolds.{count_on}
 use Rattle.window_rule.specs.Spares.{SpareEnds, first_spare_of}
 use Rattle.window_rule.specs.Trails.{Follows}
 use Rattle.window_rule.proofs.Counting.{Each, Each-from_times, on_rank_by_places, sum_below-mono}
@@ -20,7 +20,7 @@ use Rattle.window_rule.proofs.Removals.{on-both}
 use Rattle.window_rule.proofs.Sums.{sum_below-ones}
 use Rattle.fabric.specs.Window.{RankModel}
 use Rattle.block_pool.specs.Alone.{Counts, TakesAlone, exchanges, is_worn, used_blocks}
-use Rattle.block_pool.specs.Moves.{OnlyTaken, Unmoved}
+use Rattle.block_pool.specs.Moves.{OnlyTaken}
 use Rattle.block_pool.specs.Takes as takes
 use Rattle.block_pool.specs.declared.refused.PoolRefused.{PoolRefused}
 use Rattle.block_pool.specs.declared.refused.PoolRefused.TheVariants as pool

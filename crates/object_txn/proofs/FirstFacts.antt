@@ -1,5 +1,5 @@
 -- The first transaction of a rank that was handed over alone counts its blocks.
-use Rattle.std.proofs.Common.{◌≡◌, ◌≢◌, ℕ, zero, suc, ◌+◌, ◌-◌, ◌^◌, ◌<◌, ◌≤◌, ◌==◌, ◌&&◌, not, Bool, true, false, cond, List, [], ◌∷◌, ◌++◌, length, length-append, get_or, append-nil, refl, sym, ap, ◌∙◌, subst, inl, inr, ◌⊎◌, arith, Option, Some, None, eq-eqb}
+use Rattle.std.proofs.Common.{◌≡◌, ◌≢◌, ℕ, zero, suc, ◌+◌, ◌^◌, ◌<◌, ◌≤◌, ◌==◌, ◌&&◌, not, Bool, true, false, List, [], ◌∷◌, ◌++◌, length, length-append, get_or, append-nil, refl, sym, ap, ◌∙◌, subst, inl, inr, arith, Option, Some, None, eq-eqb}
 use Rattle.std.specs.Prelude.{is_some, IsSome, nat_lt}
 use Rattle.std.specs.Option.{unwrap_or}
 use Rattle.std.specs.List.{list_all}
@@ -8,16 +8,16 @@ use Rattle.std.proofs.lemmas.Bool.Decides.{nat_tests}
 use Rattle.std.proofs.lemmas.List.FromFn.{length-range_with_len}
 use mathlib.Core.List.{IsPrefix}
 use Rattle.rma_layout.specs.Shape.{Shape}
-use Rattle.rma_layout.specs.Placement.{Place, IsBlock, IsReserved, same_place}
-use Rattle.object_words.specs.Blocks.{contents_use, contents_need, is_reserved, made_objects, grown_blocks, on_rank, one_if}
+use Rattle.rma_layout.specs.Placement.{Place, IsReserved, same_place}
+use Rattle.object_words.specs.Blocks.{contents_use, is_reserved, made_objects, on_rank, one_if}
 use Rattle.object_words.specs.Contents.{Agrees, Contents, content_of, is_empty, overlay, with_words, words_at}
-use Rattle.object_words.specs.Entries.{EachEntry, Entry, HasBlocks, HasBlocksOnEach, contents_after, store_after}
+use Rattle.object_words.specs.Entries.{EachEntry, Entry, HasBlocksOnEach, contents_after, store_after}
 use Rattle.object_words.proofs.Places.{words_at_here}
 use Rattle.window_rule.specs.View.{View, OwnBlock}
 use Rattle.window_rule.specs.Partition.{places_of, times}
 use Rattle.window_rule.specs.Pool.{bound_of}
 use Rattle.window_rule.specs.RightsHold.{IsAlone, right_count}
-use Rattle.window_rule.specs.RoomHolds.{count_on, sum_below}
+use Rattle.window_rule.specs.RoomHolds.{count_on}
 use Rattle.window_rule.specs.Spares.{SpareEnds, HasNone}
 use Rattle.window_rule.specs.Trails.{Follows}
 use Rattle.window_rule.specs.Truths.{IsTrueView}
@@ -31,9 +31,9 @@ use Rattle.block_pool.specs.Alone.{HasLowTag, used_blocks}
 use Rattle.block_pool.proofs.MovesKept.{alone_still}
 use Rattle.object_store.specs.Refusals.{IsFirstWithoutBlocks}
 use Rattle.object_txn.specs.declared.txn.Txn.{Txn}
-use Rattle.object_txn.specs.Alone.{CountsBlocks, CountsFirst, IsMade, OwnsTaken, StopsAt, TellsFree, tag_bound}
+use Rattle.object_txn.specs.Alone.{CountsBlocks, CountsFirst, IsMade, OwnsTaken, StopsAt, TellsFree}
 use Rattle.object_txn.specs.State.{free_on, has_no_spare, has_none, is_low, is_ready, most_told, on_each, tells, window_state}
-use Rattle.object_txn.specs.Tied.{HasTaken, HasWritten, IsTied, MayBeWritten}
+use Rattle.object_txn.specs.Tied.{HasTaken, IsTied}
 use Rattle.object_txn.proofs.AloneFacts.{owns_still, same_on}
 use Rattle.object_txn.proofs.Maps.{words_at_other}
 

@@ -1,14 +1,12 @@
 -- Blocks are given back by a rank that is alone: each is free then.
-use Rattle.std.proofs.Common.{◌≡◌, ◌≢◌, ℕ, ◌+◌, ◌-◌, ◌^◌, ◌<◌, ◌≤◌, List, [], ◌∷◌, ◌++◌, refl, sym, ap, ◌∙◌, subst, inl, inr, arith, Option, Some, None, ◌==◌, cond, eq-eqb}
+use Rattle.std.proofs.Common.{◌≡◌, ℕ, ◌+◌, ◌-◌, ◌^◌, ◌<◌, ◌≤◌, List, [], ◌∷◌, ◌++◌, refl, sym, ap, ◌∙◌, subst, inl, inr, arith, Option, Some, None, ◌==◌, cond, eq-eqb}
 use Rattle.std.specs.Option.{unwrap_or}
 use Rattle.std.proofs.lemmas.Bool.{cases_eq}
 use Rattle.std.proofs.lemmas.List.Sums.{sum_by-cons}
 use Rattle.rma_layout.specs.Shape.{Shape}
 use Rattle.rma_layout.specs.Placement.{Place}
 use Rattle.window_rule.specs.Pool.{bound_of}
-use Rattle.window_rule.specs.RightsHold.{IsAlone}
 use Rattle.window_rule.specs.RoomHolds.{count_on}
-use Rattle.window_rule.specs.View.{View}
 use Rattle.window_rule.proofs.Removals.{on-both}
 use Rattle.fabric.specs.Window.{RankModel}
 use Rattle.block_pool.specs.Alone.{GivesAlone}

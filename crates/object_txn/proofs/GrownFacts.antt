@@ -1,7 +1,6 @@
 -- Just so many blocks are taken on a rank as the written objects there grow by.
-use Rattle.std.proofs.Common.{◌≡◌, ◌≢◌, ℕ, zero, suc, ◌+◌, ◌-◌, ◌<◌, ◌≤◌, ◌==◌, ◌&&◌, not, max, Bool, true, false, cond, List, [], ◌∷◌, ◌++◌, length, length-append, refl, sym, ap, ◌∙◌, subst, inl, inr, ◌⊎◌, arith, Option, Some, None, ne_eqb}
+use Rattle.std.proofs.Common.{◌≡◌, ◌≢◌, ℕ, ◌+◌, ◌-◌, ◌<◌, ◌≤◌, ◌==◌, ◌&&◌, not, max, Bool, true, false, cond, List, [], ◌∷◌, ◌++◌, length, length-append, refl, sym, ap, ◌∙◌, subst, inl, inr, arith, Option, Some, None, ne_eqb}
 use Rattle.std.specs.Prelude.{is_some}
-use Rattle.std.specs.Option.{unwrap_or}
 use Rattle.std.specs.List.{AllByRecursion}
 use Rattle.std.proofs.lemmas.Bool.{cases_eq}
 use Rattle.std.proofs.lemmas.List.Sums.{sum_by-cons}
@@ -18,7 +17,7 @@ use Rattle.window_rule.specs.Truths.{IsTrueView}
 use Rattle.block_pool.specs.Alone.{used_blocks}
 use Rattle.window_rule.proofs.CommitKept.{total_is_sum}
 use Rattle.window_rule.proofs.Counting.{sum_below-mono, sum_below-same}
-use Rattle.window_rule.proofs.LockLemmas.{place_by_parts, place_cases, same_place-false, same_place-refl}
+use Rattle.window_rule.proofs.LockLemmas.{place_by_parts, same_place-false, same_place-refl}
 use Rattle.window_rule.proofs.Removals.{on-both}
 use Rattle.window_rule.proofs.RoomKept.{count_all, sum_below-none}
 use Rattle.window_rule.proofs.Sums.{sum_below-except}
@@ -29,7 +28,7 @@ use Rattle.object_txn.specs.declared.plan.Plan.{Plan}
 use Rattle.object_store.specs.State.{Named, names_rank}
 use Rattle.object_txn.specs.Alone.{FallsShort, StopsAt}
 use Rattle.object_txn.specs.Moves.{NamesRank}
-use Rattle.object_txn.specs.Planning.{Plans, PlansNext, own_start}
+use Rattle.object_txn.specs.Planning.{PlansNext, own_start}
 use Rattle.object_txn.specs.Tied.{chain_known}
 
 abbrev one_on : ℕ → Place → ℕ

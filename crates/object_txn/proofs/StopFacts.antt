@@ -1,10 +1,8 @@
 -- A rank that is alone and has too few blocks for what it writes is refused by the name of the first home rank without them.
-use Rattle.std.proofs.Common.{◌≡◌, ◌≢◌, ℕ, ◌+◌, ◌<◌, ◌≤◌, List, [], ◌∷◌, length, length-append, refl, sym, ap, ◌∙◌, subst, arith}
-use mathlib.Core.List.{IsPrefix}
+use Rattle.std.proofs.Common.{◌≡◌, ℕ, ◌<◌, ◌≤◌, List, [], length, length-append, sym, ap, ◌∙◌, subst, arith}
 use Rattle.rma_layout.specs.declared.word.Word.{Word}
 use Rattle.rma_layout.specs.Ranges.{IsInRange}
 use Rattle.rma_layout.specs.Shape.{Shape}
-use Rattle.rma_layout.specs.Placement.{Place}
 use Rattle.object_words.specs.Blocks.{contents_use}
 use Rattle.object_words.specs.Entries.{Entry, store_after}
 use Rattle.window_rule.specs.View.{View, OwnBlock}

@@ -1,18 +1,17 @@
 -- What a rank that is alone knows of its blocks in the first transaction after it was handed over.
-use Rattle.std.specs.Prelude.{◌≡◌, ◌≢◌, ℕ, zero, suc, ◌+◌, ◌-◌, ◌^◌, ◌<◌, ◌≤◌, ◌&&◌, Bool, true, false, nat_lt, List, [], ◌∷◌, ◌++◌, length, Option, None, Some, if◌then◌else◌}
+use Rattle.std.specs.Prelude.{◌≡◌, ◌≢◌, ℕ, ◌+◌, ◌^◌, ◌<◌, ◌≤◌, true, List, [], ◌++◌, length, None, Some}
 use Rattle.std.specs.List.{AllByRecursion}
 use Rattle.std.specs.Option.{unwrap_or}
 use Rattle.rma_layout.specs.Shape.{Shape}
 use Rattle.rma_layout.specs.Placement.{Place, IsReserved}
-use Rattle.object_words.specs.Blocks.{contents_use, grown_blocks}
+use Rattle.object_words.specs.Blocks.{grown_blocks}
 use Rattle.object_words.specs.Contents.{Agrees, Contents, content_of, words_at}
 use Rattle.object_words.specs.Entries.{Entry, store_after}
-use Rattle.window_rule.specs.View.{View, OwnBlock}
+use Rattle.window_rule.specs.View.{View}
 use Rattle.window_rule.specs.Partition.{places_of, times}
 use Rattle.window_rule.specs.Pool.{bound_of}
-use Rattle.window_rule.specs.RightsHold.{IsAlone, right_count}
+use Rattle.window_rule.specs.RightsHold.{IsAlone}
 use Rattle.window_rule.specs.RoomHolds.{count_on}
-use Rattle.window_rule.specs.Spares.{SpareEnds}
 use Rattle.fabric.specs.Window.{RankModel}
 use Rattle.block_pool.specs.Alone.{used_blocks}
 use Rattle.object_moves.specs.Loads.{blocks_asked}

@@ -1,11 +1,11 @@
-use Rattle.std.proofs.Common.{◌<◌, ◌∷◌, ◌++◌, [], Err, sym, ap, ◌∙◌, subst, arith}
+use Rattle.std.proofs.Common.{◌<◌, ◌∷◌, ◌++◌, [], Err, ap, ◌∙◌, subst, arith}
 use Rattle.rma_layout.specs.Shape.{Shape}
 use Rattle.window_rule.specs.View.{View}
 use Rattle.window_rule.specs.Pool.{MayBeFree}
 use Rattle.window_rule.specs.Spares.{HasSpares, IsNoSpare}
 use Rattle.block_pool.specs.Takes.{Refuses}
 use Rattle.block_pool.specs.Alone.{exchanges}
-use Rattle.object_txn.proofs.AloneFacts.{empty_before, empty_by, few_on, never_worn, owns_none, owns_one, owns_still, room_by}
+use Rattle.object_txn.proofs.AloneFacts.{empty_before, empty_by, few_on, never_worn, owns_none, owns_one, room_by}
 use Rattle.object_txn.proofs.MakingFacts.{explains_busy, explains_empty, explains_worn, never_busy, owns_same, owns_taken, taken_is_new, taken_more}
 use Rattle.object_txn.proofs.making.take_one.Goals as goal
 

@@ -4,7 +4,6 @@ use Rattle.object_words.specs.Entries.{Entry, store_after}
 use Rattle.window_rule.specs.View.{View}
 use Rattle.window_rule.specs.Trails.{Follows}
 use Rattle.object_txn.specs.Tied.{IsTied}
-use Rattle.object_store.specs.declared.phase.Phase.TheVariants.{Writing}
 use Rattle.object_txn.proofs.StoreFacts.{continues, finishes, firm, tied_agrees}
 use Rattle.object_txn.proofs.window_store.WindowStore.finish.Goals as goal
 

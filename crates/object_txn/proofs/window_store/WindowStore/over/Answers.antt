@@ -1,6 +1,5 @@
-use Rattle.std.proofs.Common.{◌≡◌, ◌∙◌, refl, sym, ap, subst, Some}
+use Rattle.std.proofs.Common.{◌∙◌, ap}
 use Rattle.window_rule.specs.View.{View}
-use Rattle.fabric.specs.Window.{RankModel}
 use Rattle.object_txn.proofs.EndingFacts.{rank_by_parts}
 use Rattle.object_txn.proofs.FirstFacts.{counts_opened, ready_by, tells_free}
 use Rattle.object_txn.specs.State.{is_ready}
