@@ -1,5 +1,32 @@
+use Rattle.std.proofs.Common.{◌≡◌, ◌∙◌, sym}
+use Rattle.gdi_kinds.specs.declared.call.Call.{Call}
+use Rattle.object_store.specs.State.{StoreState}
+use Rattle.object_store.specs.declared.phase.Phase.TheVariants.{Idle, Writing}
+use Rattle.graph_law.specs.Calls.{MayCall}
 use Rattle.graph_law.proofs.Standing.{stands_first, stands_still}
 use Rattle.call_tests.proofs.values.give_and_take.Goals as goal
+
+apart : Writing ≡ Idle → ⊥
+apart never = cc
+
+-- each call may be made in a transaction that writes
+may_call : {N : Type 0} {call : Call} {state : StoreState N} → state.phase ≡ Writing → MayCall call state
+may_call writing = record { begun = λ idle. apart (sym writing ∙ idle); writing = λ _. writing }
+
+pub vertex_set-requires-clause-may : goal.vertex_set-requires-clause-may
+vertex_set-requires-clause-may g c = may_call c.in_ok-begin.ensures.done.phase
+
+pub new_type-requires-clause-may : goal.new_type-requires-clause-may
+new_type-requires-clause-may g c = may_call (c.in_ok-unknown.ensures.works.went.reaches.stays.phase ∙ c.in_ok-begin.ensures.done.phase)
+
+pub vertex_set-requires-2-clause-may : goal.vertex_set-requires-2-clause-may
+vertex_set-requires-2-clause-may g c = may_call (c.in_ok-typed.ensures.works.went.reaches.stays.phase ∙ (c.in_ok-unknown.ensures.works.went.reaches.stays.phase ∙ c.in_ok-begin.ensures.done.phase))
+
+pub vertex_add-requires-clause-may : goal.vertex_add-requires-clause-may
+vertex_add-requires-clause-may g c = may_call (c.in_ok-set.ensures.works.went.reaches.stays.phase ∙ (c.in_ok-typed.ensures.works.went.reaches.stays.phase ∙ (c.in_ok-unknown.ensures.works.went.reaches.stays.phase ∙ c.in_ok-begin.ensures.done.phase)))
+
+pub vertex_unset-requires-clause-may : goal.vertex_unset-requires-clause-may
+vertex_unset-requires-clause-may g c = may_call (c.in_ok-added.ensures.works.went.reaches.stays.phase ∙ (c.in_ok-set.ensures.works.went.reaches.stays.phase ∙ (c.in_ok-typed.ensures.works.went.reaches.stays.phase ∙ (c.in_ok-unknown.ensures.works.went.reaches.stays.phase ∙ c.in_ok-begin.ensures.done.phase))))
 
 pub vertex_set-requires-clause-stands : goal.vertex_set-requires-clause-stands
 vertex_set-requires-clause-stands g c = stands_first _ c.in_ok-begin.ensures.done.wrote_nothing
