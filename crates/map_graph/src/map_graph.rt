@@ -25,13 +25,15 @@ mod passing;
 mod props;
 mod reads;
 mod restore;
+mod room;
 mod sizes;
 mod tags;
 mod vertices;
 mod walks;
 
 use crate::ModelRefused;
-use edge_index::{EdgeIndex, EdgeKey};
+use edge_index::EdgeKey;
+use edge_sets::EdgeSets;
 use gdi_kinds::{Call, ListOf, Name, NameList, Reply, ReplyList, Txn, Value};
 use graph_parts::{HeldEdge, HeldType, HeldVertex, Tally};
 use rma_layout::Geometry;
@@ -61,8 +63,8 @@ pub struct MapGraph {
     // How many labels of vertices each object of the index keeps, by its pointer.
     slot_counts: Tally,
     // The edges from each vertex, and those to it.
-    outgoing: EdgeIndex,
-    incoming: EdgeIndex,
+    outgoing: EdgeSets,
+    incoming: EdgeSets,
 }
 
 impl Model for MapGraph {
@@ -95,8 +97,8 @@ impl MapGraph {
             torn: false,
             bucket_counts: Tally::new(alloc),
             slot_counts: Tally::new(alloc),
-            outgoing: EdgeIndex::new(alloc),
-            incoming: EdgeIndex::new(alloc),
+            outgoing: EdgeSets::new(alloc),
+            incoming: EdgeSets::new(alloc),
         }
     }
 

@@ -7,11 +7,9 @@ ghost use Rattle.graph_model.specs.Sizes.{is_too_large, records_at, words_of_pro
 ghost use Rattle.map_graph.specs.Plain.{Answers, Ends, with_new_edge};
 
 use super::MapGraph;
-use super::props::is_vertex_too_large;
 use crate::ModelRefused;
 use edge_index::EdgeKey;
 use gdi_kinds::{Name, NoMemory, NumList, Reply};
-use rma_layout::MOST_WORDS;
 
 // The calls that make and cut edges, and ask where they lead.
 impl MapGraph {
@@ -79,13 +77,13 @@ impl MapGraph {
             return Err(NoMemory);
         }
         let ends = ends_at_most(source, target);
-        let source_is_full = self.is_full_with(source, ends)?;
-        let target_is_full = self.is_full_with(target, ends)?;
+        let source_is_full = self.is_full_at(source, ends)?;
+        let target_is_full = self.is_full_at(target, ends)?;
         Ok(source_is_full || target_is_full)
     }
 
     // Whether a vertex has no room for so many more ends of edges.
-    fn is_full_with(&self, id: u64, ends: u64) -> Result<bool, NoMemory>
+    fn is_full_at(&self, id: u64, ends: u64) -> Result<bool, NoMemory>
         requires { ends ≤ 2 }
         ensures { IfOk result (λ full. full ≡ option_map_or (λ vertex. is_too_large
             (5 + length vertex.labels + words_of_props vertex.props + 5 * (records_at self.now.graph id + ends))) (vertex_at self.now.graph id) false) }
@@ -93,15 +91,7 @@ impl MapGraph {
         let Some(vertex) = self.vertex(id) else {
             return Ok(false);
         };
-        let records = self.records(id)?;
-        Ok(
-            records > MOST_WORDS
-                || is_vertex_too_large(
-                    vertex.label_count(),
-                    vertex.props().words(),
-                    records + ends,
-                ),
-        )
+        self.is_full_with(id, vertex.label_count(), vertex.props().words(), ends)
     }
 }
 

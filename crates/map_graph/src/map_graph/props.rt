@@ -31,7 +31,7 @@ impl MapGraph {
             return Ok(Reply::WrongKind);
         }
         let props = vertex.props().words_with(ty, value);
-        if is_vertex_too_large(vertex.label_count(), props, self.records(id)?) {
+        if self.is_full_with(id, vertex.label_count(), props, 0)? {
             return Ok(Reply::TooLarge);
         }
         let copy = value.copy(self.alloc())?;
@@ -61,7 +61,7 @@ impl MapGraph {
             return Ok(Reply::NotMany);
         }
         let props = vertex.props().words_adding(ty, value);
-        if is_vertex_too_large(vertex.label_count(), props, self.records(id)?) {
+        if self.is_full_with(id, vertex.label_count(), props, 0)? {
             return Ok(Reply::TooLarge);
         }
         let copy = value.copy(self.alloc())?;

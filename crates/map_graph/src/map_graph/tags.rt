@@ -8,7 +8,6 @@ ghost use Rattle.graph_model.specs.VertexCalls.{with_vertex};
 ghost use Rattle.map_graph.specs.Plain.{Answers};
 
 use super::MapGraph;
-use super::props::is_vertex_too_large;
 use crate::ModelRefused;
 use gdi_kinds::{Name, NoMemory, Reply};
 use rma_layout::MOST_WORDS;
@@ -32,7 +31,7 @@ impl MapGraph {
             return Ok(Reply::HasLabel);
         }
         let labels = vertex.label_count_with(label);
-        if is_vertex_too_large(labels, vertex.props().words(), self.records(id)?) {
+        if self.is_full_with(id, labels, vertex.props().words(), 0)? {
             return Ok(Reply::TooLarge);
         }
         if self.is_slot_full(label, id)? {
