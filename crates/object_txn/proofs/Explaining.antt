@@ -1,5 +1,5 @@
 -- A refusal stays explained.
-use Rattle.std.proofs.Common.{◌≡◌, false, refl, ℕ, ◌<◌, ◌≤◌, ◌==◌, cond, List, ◌++◌, sym, ap, ◌∙◌, subst, arith, append_assoc}
+use Rattle.std.proofs.Common.{◌≡◌, ◌⊎◌, inl, inr, false, refl, ℕ, ◌<◌, ◌≤◌, ◌==◌, cond, List, ◌++◌, sym, ap, ◌∙◌, subst, arith, append_assoc}
 use Rattle.std.specs.List.{count_by}
 use Rattle.std.proofs.lemmas.List.Elements.{Contains-append_left, Contains-append_right}
 use Rattle.std.proofs.lemmas.List.Sums.{sum_by-append}
@@ -10,11 +10,14 @@ use Rattle.lock_words.specs.declared.want.Want.TheVariants.{Writer}
 use Rattle.window_rule.specs.View.{View, Miss, Target, OfObject, OfGate}
 use Rattle.window_rule.specs.RightsHold.{IsAlone, right_count}
 use Rattle.window_rule.specs.Trails.{Follows}
+use Rattle.rma_layout.specs.Placement.{Place}
 use Rattle.object_store.specs.Sound.{StaysExplained}
+use Rattle.object_store.specs.State.{names_nothing, names_object}
+use Rattle.object_txn.specs.State.{named_by}
 use Rattle.object_txn.specs.declared.refused.TxnRefused.{TxnRefused}
 use Rattle.object_txn.specs.declared.refused.TxnRefused.TheVariants.{Busy, GateBusy, Empty, PoolBusy, Worn, NoMemory}
 use Rattle.object_txn.specs.Committing.{Recalls}
-use Rattle.object_txn.specs.Causes.{Explains, Gained, HasLooked, HasMissed, WasRefused, is_for_others}
+use Rattle.object_txn.specs.Causes.{Explains, Gained, HasLooked, HasMissed, WasRefused, is_for_others, is_for_tag}
 
 abbrev gained_later : {X : Type 0} (before mid now : List X) → Gained before mid → IsPrefix mid now → Gained before now
 gained_later before mid now g p =
@@ -148,3 +151,14 @@ never_for_others shape before after (Empty rank head) was alone = refl
 never_for_others shape before after (PoolBusy rank loaded seen) was alone = absurd (was.not_alone alone)
 never_for_others shape before after (Worn rank head) was alone = refl
 never_for_others shape before after NoMemory was alone = refl
+
+-- a refusal that names an object or nothing is for no tag
+pub never_for_tag : (why : TxnRefused) (object : Place) → (named_by why ≡ names_nothing) ⊎ (named_by why ≡ names_object object)
+    → is_for_tag why ≡ false
+never_for_tag (Busy at want word) object named = refl
+never_for_tag (GateBusy word) object named = refl
+never_for_tag (Empty rank head) object named = refl
+never_for_tag (PoolBusy rank loaded seen) object named = refl
+never_for_tag (Worn rank head) object (inl named) = absurd (cc named)
+never_for_tag (Worn rank head) object (inr named) = absurd (cc named)
+never_for_tag NoMemory object named = refl

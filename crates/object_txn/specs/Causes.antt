@@ -71,3 +71,12 @@ is_for_others (Empty rank head) = false
 is_for_others (PoolBusy rank loaded seen) = true
 is_for_others (Worn rank head) = false
 is_for_others NoMemory = false
+
+-- the head of a rank has the last tag. That never comes to a strict store
+abbrev pub is_for_tag : TxnRefused → Bool
+is_for_tag (Busy object want word) = false
+is_for_tag (GateBusy word) = false
+is_for_tag (Empty rank head) = false
+is_for_tag (PoolBusy rank loaded seen) = false
+is_for_tag (Worn rank head) = true
+is_for_tag NoMemory = false

@@ -1,5 +1,5 @@
 ghost use Rattle.std.specs.Vec.{vec_capacity, vec_len};
-ghost use Rattle.std.specs.Prelude.{◌≡◌, ◌≢◌, ◌<◌, ◌⊎◌, [], ◌∷◌, ◌++◌, None, Some, IfErr, IfOk, OnErr, OnOk};
+ghost use Rattle.std.specs.Prelude.{false, ◌≡◌, ◌≢◌, ◌<◌, ◌⊎◌, [], ◌∷◌, ◌++◌, None, Some, IfErr, IfOk, OnErr, OnOk};
 ghost use Rattle.rma_layout.specs.Placement.{IsBlock, Place};
 ghost use Rattle.object_words.specs.Contents.{content_of};
 ghost use Rattle.window_rule.specs.ContentsHold.{Lasts};
@@ -15,7 +15,7 @@ ghost use Rattle.object_store.specs.declared.phase.Phase.TheVariants.{Writing};
 ghost use Rattle.object_store.specs.State.{names_nothing, names_rank};
 ghost use Rattle.object_txn.specs.State.{named_by};
 ghost use Rattle.object_txn.specs.Alone.{IsFull, OwnsTaken};
-ghost use Rattle.object_txn.specs.Causes.{Explains};
+ghost use Rattle.object_txn.specs.Causes.{Explains, is_for_tag};
 ghost use Rattle.object_txn.specs.Moves.{Makes, NamesHome, NamesRank, OwnsNoted, Takes};
 ghost use Rattle.object_txn.specs.Tied.{HasTaken, IsTied, KnowsChains, words_in};
 
@@ -50,6 +50,7 @@ pub(crate) fn make<L: Law>(
     ensures room { OwnsTaken window.now.shape rank.old txn.old.taken.items
         → OnOk result (used_blocks window.now.shape home rank.old.view < window.now.shape.blocks) }
     ensures full { OwnsTaken window.now.shape rank.old txn.old.taken.items → IfErr result (IsFull window.now.shape home rank.old.view) }
+    ensures unworn { OwnsTaken window.now.shape rank.old txn.old.taken.items → IfErr result (λ why. is_for_tag why ≡ false) }
     ensures first { txn.new.first ≡ txn.old.first }
     ensures gains { IfOk result (λ made. txn.new.taken.items ≡ txn.old.taken.items ++ made ∷ []) }
     ensures makes { IfOk result (λ made. Makes window.now.shape home rank.new.view txn.old txn.new made) }
@@ -88,6 +89,7 @@ pub(crate) fn take_one<L: Law>(
         → OnOk result (used_blocks window.now.shape home rank.old.view < window.now.shape.blocks) }
     ensures none { OwnsTaken window.now.shape rank.old taken.old.items → IfErr result (IsFull window.now.shape home rank.old.view) }
     ensures full { OwnsTaken window.now.shape rank.old taken.old.items → IfErr result (IsFull window.now.shape home rank.new.view) }
+    ensures unworn { OwnsTaken window.now.shape rank.old taken.old.items → IfErr result (λ why. is_for_tag why ≡ false) }
     ensures only { OnlyTaken rank.old.view rank.new.view }
     ensures names { IfErr result (λ why. NamesRank home (named_by why)) }
     ensures refused { IfErr result (λ why. Explains window.now.shape rank.old.view rank.new.view why) }

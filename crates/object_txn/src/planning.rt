@@ -1,4 +1,4 @@
-ghost use Rattle.std.specs.Prelude.{◌≡◌, ◌≢◌, ◌+◌, ◌<◌, ◌≤◌, ◌⊎◌, ℕ, List, [], ◌∷◌, ◌++◌, length, max, Some, None, IfErr, IfOk, OnErr, OnOk};
+ghost use Rattle.std.specs.Prelude.{false, ◌≡◌, ◌≢◌, ◌+◌, ◌<◌, ◌≤◌, ◌⊎◌, ℕ, List, [], ◌∷◌, ◌++◌, length, max, Some, None, IfErr, IfOk, OnErr, OnOk};
 ghost use Rattle.rma_layout.specs.Placement.{IsBlock, Place};
 ghost use Rattle.object_words.specs.Contents.{content_of, words_at};
 ghost use Rattle.object_words.specs.Entries.{store_after};
@@ -13,7 +13,7 @@ ghost use Rattle.object_moves.specs.Noted.{blocks_of};
 ghost use Rattle.object_store.specs.declared.phase.Phase.TheVariants.{Writing};
 ghost use Rattle.object_store.specs.State.{names_nothing, names_rank};
 ghost use Rattle.object_txn.specs.Alone.{FallsShort, IsFull, OwnsTaken, StopsAt};
-ghost use Rattle.object_txn.specs.Causes.{Explains};
+ghost use Rattle.object_txn.specs.Causes.{Explains, is_for_tag};
 ghost use Rattle.object_txn.specs.Moves.{NamesRank, OwnsNoted};
 ghost use Rattle.object_txn.specs.Planning.{AreAllPlans, Grows, Plans, PlansNext, own_start};
 ghost use Rattle.object_txn.specs.Plans.{taken_for};
@@ -54,6 +54,7 @@ pub(crate) fn plan_writes<L: Law>(
     ensures gains { IfOk result (λ plans. (block : Place) → times block (places_of rank.new.view.private) ≤ times block (places_of rank.old.view.private) + taken_for block plans.items) }
     ensures truths { OnOk result (IsTrueView L.fits window.now.shape rank.new.view) }
     ensures names { IfErr result (λ why. (home : ℕ) × NamesRank home (named_by why)) }
+    ensures unworn { OwnsTaken window.now.shape rank.old txn.old.taken.items → IfErr result (λ why. is_for_tag why ≡ false) }
     ensures refused { IfErr result (λ why. Explains window.now.shape rank.old.view rank.new.view why) }
     ensures follows { Follows rank.old.view rank.new.view }
 {
@@ -102,6 +103,7 @@ fn plan_all<L: Law>(
     ensures stops { OwnsTaken window.now.shape rank.old taken.old.items → IfErr result (λ why. (home : ℕ) → named_by why ≡ names_rank home
         → StopsAt window.now.shape (store_after rank.old.view.seen) writes.now taken.old.items taken.new.items rank.new.view home) }
     ensures names { IfErr result (λ why. (home : ℕ) × NamesRank home (named_by why)) }
+    ensures unworn { OwnsTaken window.now.shape rank.old taken.old.items → IfErr result (λ why. is_for_tag why ≡ false) }
     ensures refused { IfErr result (λ why. Explains window.now.shape rank.old.view rank.new.view why) }
     ensures follows { Follows rank.old.view rank.new.view }
 {
@@ -138,6 +140,7 @@ fn plan_next<L: Law>(
     ensures short { IfErr result (λ why. named_by why ≡ names_rank at.rank → (words_at writes.now at ≢ None)
         × FallsShort window.now.shape at blocks (length (content_of writes.now at)) taken.old.items taken.new.items) }
     ensures names { IfErr result (λ why. NamesRank at.rank (named_by why)) }
+    ensures unworn { OwnsTaken window.now.shape rank.old taken.old.items → IfErr result (λ why. is_for_tag why ≡ false) }
     ensures refused { IfErr result (λ why. Explains window.now.shape rank.old.view rank.new.view why) }
     ensures follows { Follows rank.old.view rank.new.view }
 {
@@ -185,6 +188,7 @@ fn plan_one<L: Law>(
     ensures short { IfErr result (λ why. named_by why ≡ names_rank at.rank
         → FallsShort window.now.shape at blocks words taken.old.items taken.new.items) }
     ensures names { IfErr result (λ why. NamesRank at.rank (named_by why)) }
+    ensures unworn { OwnsTaken window.now.shape rank.old taken.old.items → IfErr result (λ why. is_for_tag why ≡ false) }
     ensures refused { IfErr result (λ why. Explains window.now.shape rank.old.view rank.new.view why) }
     ensures follows { Follows rank.old.view rank.new.view }
 {
@@ -246,6 +250,7 @@ fn grow<L: Law>(
     ensures short { IfErr result (λ why. named_by why ≡ names_rank home
         → Grows home taken.old.items taken.new.items blocks.old blocks.new × (length blocks.new < count)) }
     ensures names { IfErr result (λ why. NamesRank home (named_by why)) }
+    ensures unworn { OwnsTaken window.now.shape rank.old taken.old.items → IfErr result (λ why. is_for_tag why ≡ false) }
     ensures refused { IfErr result (λ why. Explains window.now.shape rank.old.view rank.new.view why) }
     ensures follows { Follows rank.old.view rank.new.view }
 {
@@ -280,6 +285,7 @@ fn take_into<L: Law>(
     ensures short { IfErr result (λ why. named_by why ≡ names_rank home
         → (taken.new.items ≡ taken.old.items) × (blocks.new ≡ blocks.old)) }
     ensures names { IfErr result (λ why. NamesRank home (named_by why)) }
+    ensures unworn { OwnsTaken window.now.shape rank.old taken.old.items → IfErr result (λ why. is_for_tag why ≡ false) }
     ensures refused { IfErr result (λ why. Explains window.now.shape rank.old.view rank.new.view why) }
     ensures follows { Follows rank.old.view rank.new.view }
 {

@@ -1,4 +1,4 @@
-ghost use Rattle.std.specs.Prelude.{◌≡◌, ◌≢◌, ◌<◌, ◌≤◌, ℕ, [], false, length, IfErr, IfOk, OnErr, OnOk};
+ghost use Rattle.std.specs.Prelude.{◌≡◌, ◌≢◌, ◌<◌, ◌≤◌, ℕ, [], false, true, length, IfErr, IfOk, OnErr, OnOk};
 ghost use Rattle.rma_layout.specs.declared.limits.TheConstants.{MOST_WORDS};
 ghost use Rattle.rma_layout.specs.Placement.{IsBlock};
 ghost use Rattle.object_store.specs.declared.phase.Phase.TheVariants.{Idle, Reading, Writing};
@@ -11,7 +11,7 @@ ghost use Rattle.window_rule.specs.Trails.{Follows};
 ghost use Rattle.window_rule.specs.Spares.{HasNone};
 ghost use Rattle.block_pool.specs.Alone.{HasLowTag};
 ghost use Rattle.object_txn.specs.Alone.{CountsFirst, TellsFree};
-ghost use Rattle.object_txn.specs.Causes.{Explains, is_for_others};
+ghost use Rattle.object_txn.specs.Causes.{Explains, is_for_others, is_for_tag};
 ghost use Rattle.object_txn.specs.Committing.{Recalls};
 ghost use Rattle.object_txn.specs.Endings.{GivesBack, GivesSurplus, GivesTaken};
 ghost use Rattle.object_txn.specs.State.{said_by, window_state};
@@ -202,6 +202,7 @@ impl<'a, L: Law> WindowStore<'a, L> {
         ensures refused { IfErr result (λ why. RefusesFresh home (window_state self.old.window.now self.old.opened.value self.old.rank self.old.txn) (window_state self.new.window.now self.new.opened.value self.new.rank self.new.txn) (said_by why)) }
         ensures explained { IfErr result (λ why. Explains self.old.window.now.shape self.old.rank.view self.new.rank.view why) }
         ensures alone { IsAlone self.old.window.now.shape self.old.rank.view → IfErr result (λ why. is_for_others why ≡ false) }
+        ensures unworn { (window_state self.old.window.now self.old.opened.value self.old.rank self.old.txn).strict ≡ true → IfErr result (λ why. is_for_tag why ≡ false) }
         ensures given_back { OnErr result (GivesTaken self.old.txn.taken.items self.old.rank self.new.rank) }
         ensures free { OnErr result (IsFree self.new.rank.view) }
         ensures follows { Follows self.old.rank.view self.new.rank.view }
@@ -229,6 +230,7 @@ impl<'a, L: Law> WindowStore<'a, L> {
         ensures refused { IfErr result (λ why. RefusesCommit (window_state self.old.window.now self.old.opened.value self.old.rank self.old.txn) (window_state self.new.window.now self.new.opened.value self.new.rank self.new.txn) (said_by why)) }
         ensures explained { IfErr result (λ why. Explains self.old.window.now.shape self.old.rank.view self.new.rank.view why) }
         ensures alone { IsAlone self.old.window.now.shape self.old.rank.view → IfErr result (λ why. is_for_others why ≡ false) }
+        ensures unworn { (window_state self.old.window.now self.old.opened.value self.old.rank self.old.txn).strict ≡ true → IfErr result (λ why. is_for_tag why ≡ false) }
         ensures given { OnOk result (GivesSurplus self.old.txn.taken.items self.old.txn.writes self.old.rank self.new.rank) }
         ensures given_back { OnErr result (GivesTaken self.old.txn.taken.items self.old.rank self.new.rank) }
         ensures free { IsFree self.new.rank.view }

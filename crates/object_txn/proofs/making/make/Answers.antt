@@ -8,7 +8,7 @@ use Rattle.window_rule.specs.Locks.{hold_of}
 use Rattle.object_store.specs.declared.phase.Phase.TheVariants.{Idle}
 use Rattle.object_txn.specs.Tied.{HasChains, IsTied, KnowsChains}
 use Rattle.object_txn.proofs.AloneFacts.{owns_still}
-use Rattle.object_txn.proofs.Explaining.{explains_earlier}
+use Rattle.object_txn.proofs.Explaining.{explains_earlier, never_for_tag}
 use Rattle.object_txn.proofs.MakingFacts.{made_may, noted_more, unwritten_by}
 use Rattle.object_txn.proofs.NotedFacts.{chains_locked, chains_noted, chains_read, chains_written, empty_chain, noted_here}
 use Rattle.object_txn.proofs.TiedFacts.{tied_beside, tied_locked, tied_noted, tied_taken, tied_written}
@@ -198,3 +198,6 @@ returns-clause-makes g c =
       reads = c.in_ok-put-2.ensures.ok ∙ ap (with_words c.args.txn.now.reads at) c.new-2.ensures;
       writes = c.in_ok-put-3.ensures.ok ∙ ap (with_words c.args.txn.now.writes at) c.new-3.ensures;
     }
+
+pub returns-in-Err-clause-unworn : goal.returns-in-Err-clause-unworn
+returns-in-Err-clause-unworn g c = λ was. never_for_tag c.in-Err.why c.in_ok-at.at c.in-Err.ensures.names

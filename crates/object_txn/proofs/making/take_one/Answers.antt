@@ -148,3 +148,14 @@ returns-in-Err-Worn-clause-none g c = λ was _.
       c.keeps_ranges.ensures.blocks,
       ap (λ s. s.blocks) c.geometry.ensures,
     )))
+
+pub returns-in-Err-Worn-clause-unworn : goal.returns-in-Err-Worn-clause-unworn
+returns-in-Err-Worn-clause-unworn g c = λ was.
+    absurd (never_worn c.args.window.now.shape c.args.home c.args.rank.now c.take.new.rank c.args.taken.now.items was c.take.ensures.follows c.take.ensures.only
+    c.take.result (c.take.ensures.alone was.alone) c.in-Err-Worn.head (c.in-Err-Worn.is ∙ ap Err c.in-Err-Worn.field-0-is) c.requires.home
+    (omega (
+      arith,
+      few_on c.args.window.now.shape c.args.home c.args.taken.now.items c.requires.taken.once c.requires.taken.blocks,
+      c.keeps_ranges.ensures.blocks,
+      ap (λ s. s.blocks) c.geometry.ensures,
+    )))

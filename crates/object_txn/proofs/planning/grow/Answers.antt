@@ -81,3 +81,6 @@ returns-in-Err-clause-short g c = λ named.
           c.loop-rank.invariant.grown),
       omega (arith, ap length same.1, c.loop-rank-test.true),
     )
+
+pub returns-in-Err-clause-unworn : goal.returns-in-Err-clause-unworn
+returns-in-Err-clause-unworn g c = λ was. c.in-Err.ensures.unworn (c.loop-rank.invariant.alone was)

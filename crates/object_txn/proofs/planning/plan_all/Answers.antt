@@ -114,3 +114,6 @@ returns-in-Err-clause-stops g c = λ was home named.
 pub returns-in-Err-clause-follows : goal.returns-in-Err-clause-follows
 returns-in-Err-clause-follows g c =
     follows_trans c.args.rank.now.view c.loop-at.rank.view c.plan_next.new.rank.view c.loop-at.invariant.follows c.plan_next.ensures.follows
+
+pub returns-in-Err-clause-unworn : goal.returns-in-Err-clause-unworn
+returns-in-Err-clause-unworn g c = λ was. c.in-Err.ensures.unworn (c.loop-at.invariant.alone was)

@@ -28,3 +28,6 @@ returns-in-Err-clause-short g c = λ named.
       λ none. cc (is ∙ none),
       subst (λ n. FallsShort c.args.window.now.shape c.args.at c.args.blocks n c.args.taken.now.items c.plan_one.new.taken.items) long (c.in-Err.ensures.short named),
     )
+
+pub returns-in-Err-clause-unworn : goal.returns-in-Err-clause-unworn
+returns-in-Err-clause-unworn g c = λ was. c.in-Err.ensures.unworn was

@@ -35,3 +35,6 @@ pub returns-in-Err-clause-full : goal.returns-in-Err-clause-full
 returns-in-Err-clause-full g c = λ was named.
     subst (λ home. used_blocks c.args.window.now.shape home c.grow.new.rank.view ≡ c.args.window.now.shape.blocks) c.rank.ensures
     (c.in-Err.ensures.full was (named ∙ ap names_rank (sym c.rank.ensures)))
+
+pub returns-in-Err-clause-unworn : goal.returns-in-Err-clause-unworn
+returns-in-Err-clause-unworn g c = λ was. c.in-Err.ensures.unworn was

@@ -90,3 +90,8 @@ returns-in-Err-clause-stops g c = λ was home named.
     (c.in-Err.ensures.stops
     (subst (λ (r : RankModel g.row.L-Note.Denot). OwnsTaken c.args.window.now.shape r c.args.txn.now.taken.items)
     (sym (rank_by_parts c.truths.new.self c.args.rank.now c.truths.ensures.window c.truths.ensures.view c.truths.ensures.spares)) was) home named)
+
+pub returns-in-Err-clause-unworn : goal.returns-in-Err-clause-unworn
+returns-in-Err-clause-unworn g c = λ was. c.in-Err.ensures.unworn
+    (subst (λ (r : RankModel g.row.L-Note.Denot). OwnsTaken c.args.window.now.shape r c.args.txn.now.taken.items)
+    (sym (rank_by_parts c.truths.new.self c.args.rank.now c.truths.ensures.window c.truths.ensures.view c.truths.ensures.spares)) was)

@@ -178,3 +178,8 @@ returns-in-Err-clause-given_back g c =
       );
       given = back.given;
     }
+
+pub returns-in-Err-clause-unworn : goal.returns-in-Err-clause-unworn
+returns-in-Err-clause-unworn g c = λ told.
+    let self = c.args.self.now in
+    c.in-Err.ensures.unworn (counts_told self.window.now.shape self.opened.value self.rank self.txn self.counts told).owns

@@ -108,3 +108,8 @@ invariant_of-self-clause-counts g c = λ first ready.
       unreserved = makes.free.unreserved;
       empty = known_agrees g.L.Law.fits self.window.now self.opened.value now.view c.truths.ensures.truths c.in-Ok.at [] (known_of now.view.known c.in-Ok.at) refl makes.known;
     })
+
+pub returns-in-Err-clause-unworn : goal.returns-in-Err-clause-unworn
+returns-in-Err-clause-unworn g c = λ told.
+    let self = c.args.self.now in
+    c.in-Err.ensures.unworn (counts_told self.window.now.shape self.opened.value self.rank self.txn self.counts told).owns
