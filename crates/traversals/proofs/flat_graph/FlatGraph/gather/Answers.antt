@@ -19,9 +19,9 @@ invariant_of-result c =
       ap length c.in_ok-out.ensures ∙ length-map c.places.result.now (from_count (flat_map steps_by c.args.edges.now)) ∙ ap length c.places.ensures,
       ap length c.in_ok-inn.ensures ∙ length-map c.places-2.result.now (to_count (flat_map steps_by c.args.edges.now)) ∙ ap length c.places-2.ensures,
       λ k. subst (λ (ns : List ℕ). get_or ns k 0 < 4294967296) (sym c.in_ok-out.ensures)
-          (mapped-below (from_count (flat_map steps_by c.args.edges.now)) c.places.result.now 4294967296 (omega arith) (λ id. omega (arith, few-steps (λ step. step.0 == id) c.args.edges.now, c.if-len-ge2147483648.false, c.len.ensures)) k),
+          (mapped-below (from_count (flat_map steps_by c.args.edges.now)) c.places.result.now 4294967296 (omega arith) (λ id. omega (arith, few-steps (λ step. step.0 == id) c.args.edges.now, c.if-edges-ge2147483648.false)) k),
       λ k. subst (λ (ns : List ℕ). get_or ns k 0 < 4294967296) (sym c.in_ok-inn.ensures)
-          (mapped-below (to_count (flat_map steps_by c.args.edges.now)) c.places-2.result.now 4294967296 (omega arith) (λ id. omega (arith, few-steps (λ step. step.1 == id) c.args.edges.now, c.if-len-ge2147483648.false, c.len.ensures)) k),
+          (mapped-below (to_count (flat_map steps_by c.args.edges.now)) c.places-2.result.now 4294967296 (omega arith) (λ id. omega (arith, few-steps (λ step. step.1 == id) c.args.edges.now, c.if-edges-ge2147483648.false)) k),
     )
 
 pub returns-clause-graph : goal.returns-clause-graph

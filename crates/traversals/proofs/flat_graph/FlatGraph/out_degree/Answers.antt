@@ -1,4 +1,14 @@
+use Rattle.std.proofs.Common.{◌<◌, length, sym, ap, ◌∙◌, arith}
+use Rattle.std.specs.List.{slice_get}
+use Rattle.std.proofs.lemmas.Option.{get_or_from_slice_get}
+use Rattle.traversals.specs.Outline.{Outline}
 use Rattle.traversals.proofs.flat_graph.FlatGraph.out_degree.Goals as goal
 
+pub at-requires : goal.at-requires
+at-requires c = omega (arith, c.requires, ap (λ (o : Outline). length o.ids) c.self.view_is, c.self.invariant.1.1.1.1.0)
+
 pub returns : goal.returns
-returns c = ?
+returns c = record {
+  value = sym (ap (λ (o : Outline). slice_get o.out c.args.place) c.self.view_is) ∙ c.at.ensures;
+  few = omega (arith, get_or_from_slice_get c.self.inside.out c.args.place c.at.result.now 0 c.at.ensures, c.self.invariant.1.1.1.1.1.1.0 c.args.place);
+}
