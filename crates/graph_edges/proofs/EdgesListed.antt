@@ -57,15 +57,15 @@ use Rattle.graph_edges.proofs.RecordHere.{EdgeAt, all_contained, each_at, each_c
 
 module _ {id : ℕ} {dir : Dir} {test : Option (List (List Atom))} where
   pub lists_none : {old new : StoreState Noted} → new ≡ old → ListsEdges id dir test [] old new []
-  lists_none {old} same = record { looks = subst (Looks old) (sym same) (record { stays = stays-same; writes = refl }); lines = λ store g is agrees. refl }
+  lists_none {old} same = record { looks = subst (Looks old) (sym same) (record { stays = stays-same; writes = refl }); shown = λ store g is agrees. refl }
 
   pub lists_more : {old mid new : StoreState Noted} {done : List EdgeRecord} (end : EdgeRecord) {lines more : List EdgeLine} → ListsEdges id dir test done old mid lines → ListsEdge id dir test end lines more mid new
       → ListsEdges id dir test (done ++ end ∷ []) old new more
   lists_more {old} {mid} {new} {done} end {lines} {more} so_far one = record {
     looks = looks-then so_far.looks one.looks;
-    lines = λ store g is agrees.
-        back so_far.looks one.lines store g is agrees
-        ∙ (ap (λ ls. ls ++ cond (is_shown g id dir test end) (line_of id end ∷ []) []) (so_far.lines store g is (agrees_before one.looks.stays store agrees))
+    shown = λ store g is agrees.
+        back (λ h _. more ≡ lines ++ cond (is_shown h id dir test end) (line_of id end ∷ []) []) new so_far.looks one.shown store g is agrees
+        ∙ (ap (λ ls. ls ++ cond (is_shown g id dir test end) (line_of id end ∷ []) []) (so_far.shown store g is (agrees_before one.looks.stays store agrees))
         ∙ sym (ap (map (line_of id)) (filter-append (is_shown g id dir test) done (end ∷ []))
         ∙ (map-append (line_of id) (filter (is_shown g id dir test) done) (filter (is_shown g id dir test) (end ∷ []))
         ∙ ap (λ ls. map (line_of id) (filter (is_shown g id dir test) done) ++ ls) (last (is_shown g id dir test end)))));
@@ -79,29 +79,29 @@ module _ {id : ℕ} {dir : Dir} {test : Option (List (List Atom))} where
   pub not_listed : {old new : StoreState Noted} {end : EdgeRecord} {lines : List EdgeLine} → new ≡ old → is_listed dir end ≡ false → ListsEdge id dir test end lines lines old new
   not_listed {old} {new} {end} {lines} same unlisted = record {
     looks = subst (Looks old) (sym same) (record { stays = stays-same; writes = refl });
-    lines = λ store g is agrees. sym (ap (λ b. lines ++ cond (b && passes_at g id test end) (line_of id end ∷ []) []) unlisted ∙ append-nil lines);
+    shown = λ store g is agrees. sym (ap (λ b. lines ++ cond (b && passes_at g id test end) (line_of id end ∷ []) []) unlisted ∙ append-nil lines);
   }
 
   module _ {old new : StoreState Noted} {end : EdgeRecord} {passed : Bool} (passes : PassesEdge id test end old new passed) (listed : is_listed dir end ≡ true) where
     shown_is : (store : Contents) (g : Graph) → Represents old.shape (overlay store old.writes) g → Agrees new.reads store → is_shown g id dir test end ≡ passed
-    shown_is store g is agrees = ap (λ b. b && passes_at g id test end) listed ∙ sym (passes.passed store g is agrees)
+    shown_is store g is agrees = ap (λ b. b && passes_at g id test end) listed ∙ sym (passes.is store g is agrees)
 
     pub not_passing : {lines : List EdgeLine} → passed ≡ false → ListsEdge id dir test end lines lines old new
     not_passing {lines} fails = record {
       looks = passes.looks;
-      lines = λ store g is agrees. sym (ap (λ b. lines ++ cond b (line_of id end ∷ []) []) (shown_is store g is agrees ∙ fails) ∙ append-nil lines);
+      shown = λ store g is agrees. sym (ap (λ b. lines ++ cond b (line_of id end ∷ []) []) (shown_is store g is agrees ∙ fails) ∙ append-nil lines);
     }
 
     pub passing : {lines more : List EdgeLine} {line : EdgeLine} → passed ≡ true → line ≡ line_of id end → more ≡ lines ++ line ∷ [] → ListsEdge id dir test end lines more old new
     passing {lines} {more} {line} is_passed line_is pushed = record {
       looks = passes.looks;
-      lines = λ store g is agrees.
+      shown = λ store g is agrees.
           pushed ∙ (ap (λ (l : EdgeLine). lines ++ l ∷ []) line_is ∙ sym (ap (λ b. lines ++ cond b (line_of id end ∷ []) []) (shown_is store g is agrees ∙ is_passed)));
     }
 
 -- what was known of records is known on
-pub records_on : {id : ℕ} {old new : StoreState Noted} {end : EdgeRecord} → Looks old new → KnowsRecord id end old → KnowsRecord id end new
-records_on looks known = record { own = own_known_on _ looks known.own; is = onward looks (later looks known.is) }
+pub records_on : (id : ℕ) (end : EdgeRecord) {old new : StoreState Noted} → Looks old new → KnowsRecord id end old → KnowsRecord id end new
+records_on id end {old} looks known = record { own = own_known_on end.form looks known.own; is = onward (IsOfEdge id end) looks (later (IsOfEdge id end) old looks known.is) }
 
 -- ---- the records of a vertex that was found
 
@@ -136,7 +136,7 @@ module _ {id : ℕ} {old mid new : StoreState Noted} {vertex : VertexHolder} {na
               subst (λ (writes : Contents). IsOwnSpelled end.form old.shape (overlay store writes)) (sym looks.writes)
               (own_spelled ranges stands.represents id (at_here store stands.graph stands.represents agrees)));
         };
-        is = onward looks (λ store g is agrees. of_edge ranges is id (at_here store g is agrees));
+        is = onward (IsOfEdge id end) looks (λ store g is agrees. of_edge ranges is id (at_here store g is agrees));
       }
 
   module _ (knows : Knows Stands old) (sound : IsSound Fits new) where
@@ -146,8 +146,8 @@ module _ {id : ℕ} {old mid new : StoreState Noted} {vertex : VertexHolder} {na
     pub owns_unreserved : (place : Place) → IsOwnAmong vertex.edges place → IsUnreserved new.shape place.rank place
     owns_unreserved place own = place_of_own own.0 own.1 knows sound place own.2
 
-pub names_known_on : {old mid new : StoreState Noted} {names : MetaHolder} → Looks old mid → FindsNames mid new names → Everywhere new new (λ g _. names ≡ names_of g)
-names_known_on looks found = onward found.looks (λ store g is agrees. found.names store g is agrees)
+pub names_known : {mid new : StoreState Noted} (names : MetaHolder) → FindsNames mid new names → Everywhere new new (λ g _. names ≡ names_of g)
+names_known names found = onward (λ g _. names ≡ names_of g) found.looks (λ store g is agrees. found.names store g is agrees)
 
 -- ---- the reply
 
@@ -227,7 +227,7 @@ module _ {id : ℕ} {dir : Dir} {test : Option (List (List Atom))} {old mid next
           let vertex_here = sym v.1 in
           let kinds = agree ∙ kinds_are store g is earlier in
           let same : lines ≡ shown g =
-          back (looks-then finds.looks found.looks) lists.lines store g is agrees
+          back (λ h _. lines ≡ map (line_of id) (filter (is_shown h id dir test) held.edges)) new (looks-then finds.looks found.looks) lists.shown store g is agrees
           ∙ (ap (λ (h : VertexHolder). map (line_of id) (filter (is_shown g id dir test) h.edges)) v.2 ∙ lines_shown ranges is id dir test) in
           λ i. (answer_of g (ListSteps g id (known_here i) (vertex_here i) (kinds i) (same i))).reply)
           (λ store g is agrees place. elim (owns.reads place) [

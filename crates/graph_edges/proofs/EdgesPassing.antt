@@ -45,23 +45,25 @@ use Rattle.graph_edges.specs.Listing.{Everywhere, IsOfEdge, KnowsRecord, PassesE
 
 -- ---- facts that are so wherever a transaction is
 
-module _ {N : Type 0} {Holds : Graph → Contents → Type 0} where
-  abbrev At : Shape → Contents → Contents → Type 0
-  At shape writes reads = (store : Contents) (g : Graph) → Represents shape (overlay store writes) g → Agrees reads store → Holds g (overlay store writes)
+abbrev At : (Graph → Contents → Type 0) → Shape → Contents → Contents → Type 0
+At Holds shape writes reads = (store : Contents) (g : Graph) → Represents shape (overlay store writes) g → Agrees reads store → Holds g (overlay store writes)
 
+module _ {N : Type 0} (Holds : Graph → Contents → Type 0) where
   -- seen from what follows, and from what was before
   pub onward : {old new : StoreState N} → Looks old new → Everywhere old new Holds → Everywhere new new Holds
-  onward {old} {new} looks is = subst (λ (shape : Shape). At shape new.writes new.reads) (sym looks.stays.shape) (subst (λ (writes : Contents). At old.shape writes new.reads) (sym looks.writes) is)
+  onward {old} {new} looks is =
+      subst (λ (shape : Shape). At Holds shape new.writes new.reads) (sym looks.stays.shape) (subst (λ (writes : Contents). At Holds old.shape writes new.reads) (sym looks.writes) is)
 
-  pub back : {old mid new : StoreState N} → Looks old mid → Everywhere mid new Holds → Everywhere old new Holds
-  back {old} {mid} {new} looks is = subst (λ (writes : Contents). At old.shape writes new.reads) looks.writes (subst (λ (shape : Shape). At shape mid.writes new.reads) looks.stays.shape is)
+  pub back : {old mid : StoreState N} (new : StoreState N) → Looks old mid → Everywhere mid new Holds → Everywhere old new Holds
+  back {old} {mid} new looks is =
+      subst (λ (writes : Contents). At Holds old.shape writes new.reads) looks.writes (subst (λ (shape : Shape). At Holds shape mid.writes new.reads) looks.stays.shape is)
 
-  pub later : {old mid new : StoreState N} → Looks mid new → Everywhere old mid Holds → Everywhere old new Holds
-  later looks is = λ store g represents agrees. is store g represents (agrees_before looks.stays store agrees)
+  pub later : (old : StoreState N) {mid new : StoreState N} → Looks mid new → Everywhere old mid Holds → Everywhere old new Holds
+  later old looks is = λ store g represents agrees. is store g represents (agrees_before looks.stays store agrees)
 
 -- ---- the labels and properties of an edge
 
-module _ {id : ℕ} {end : EdgeRecord} {old new : StoreState Noted} {holder : EdgeHolder} (found : FindsEdge id end old new holder) where
+module _ (id : ℕ) (end : EdgeRecord) {old new : StoreState Noted} (holder : EdgeHolder) (found : FindsEdge id end old new holder) where
   pub parts_are : (g : Graph) (store : Contents) → Agrees new.reads store → (is : IsOfEdge id end g (overlay store old.writes)) → (holder.labels ≡ is.edge.labels) × (holder.props ≡ held_props g.types is.edge.props)
   parts_are g store agrees is = cases end.form found is.told
     where
@@ -75,21 +77,18 @@ module _ {id : ℕ} {end : EdgeRecord} {old new : StoreState Noted} {holder : Ed
           let same = edge_same holder (edge_holder_for g.types (key_at id end).source end.ordinal is.edge) finds.is told.0 (sym (finds.words store agrees) ∙ told.1) in
           (ap (λ (h : EdgeHolder). h.labels) same, ap (λ (h : EdgeHolder). h.props) same)
 
-module _ {id : ℕ} {end : EdgeRecord} {old new : StoreState Noted} {holder : EdgeHolder} {names : MetaHolder} (knows : Knows Stands old) (named : Everywhere old old (λ g _. names ≡ names_of g)) (is : KnowsRecord id end old)
+module _ (id : ℕ) (end : EdgeRecord) (old new : StoreState Noted) (holder : EdgeHolder) (names : MetaHolder) (knows : Knows Stands old) (named : Everywhere old old (λ g _. names ≡ names_of g)) (is : KnowsRecord id end old)
     (found : FindsEdge id end old new holder) where
-  looks : Looks old new
-  looks = edge_looks id end holder found
-
   -- the labels and properties that were found are numbers of these names
   module _ (ranges : IsInRange old.shape) (sound : IsSound Fits new) where
     somewhere : Stands old.shape (overlay (committed new) old.writes)
-    somewhere = knows.always (committed new) (before looks.stays (committed new) (may_be_here (subst IsInRange (sym looks.stays.shape) ranges) sound))
+    somewhere = knows.always (committed new) (before (edge_looks id end holder found).stays (committed new) (may_be_here (subst IsInRange (sym (edge_looks id end holder found).stays.shape) ranges) sound))
 
     one : IsOfEdge id end somewhere.graph (overlay (committed new) old.writes)
-    one = is.is (committed new) somewhere.graph somewhere.represents (agrees_before looks.stays (committed new) sound.agrees)
+    one = is.is (committed new) somewhere.graph somewhere.represents (agrees_before (edge_looks id end holder found).stays (committed new) sound.agrees)
 
     names_are : names ≡ names_of somewhere.graph
-    names_are = named (committed new) somewhere.graph somewhere.represents (agrees_before looks.stays (committed new) sound.agrees)
+    names_are = named (committed new) somewhere.graph somewhere.represents (agrees_before (edge_looks id end holder found).stays (committed new) sound.agrees)
 
     fits : EdgeFits somewhere.graph (key_at id end) one.edge
     fits =
@@ -99,23 +98,23 @@ module _ {id : ℕ} {end : EdgeRecord} {old new : StoreState Noted} {holder : Ed
     pub labels_known : AllByRecursion (λ n. n < length names.labels) holder.labels
     labels_known =
         subst (λ (ns : List Name). AllByRecursion (λ n. n < length ns) holder.labels) (sym (ap (λ (m : MetaHolder). m.labels) names_are))
-        (subst (λ (ls : List ℕ). AllByRecursion (λ n. n < length somewhere.graph.labels) ls) (sym (parts_are found somewhere.graph (committed new) sound.agrees one).0) fits.labels.1)
+        (subst (λ (ls : List ℕ). AllByRecursion (λ n. n < length somewhere.graph.labels) ls) (sym (parts_are id end holder found somewhere.graph (committed new) sound.agrees one).0) fits.labels.1)
 
     pub props_known : AllByRecursion (λ prop. prop.number < length names.types) holder.props
     props_known =
         let g = somewhere.graph in
         subst (λ (n : ℕ). AllByRecursion (λ (prop : HeldProp). prop.number < n) holder.props) (sym (ap (λ (m : MetaHolder). length m.types) names_are ∙ same_length g))
-        (subst (λ (ps : List HeldProp). AllByRecursion (λ (prop : HeldProp). prop.number < length g.types) ps) (sym (parts_are found g (committed new) sound.agrees one).1) (props_below g.types g.types one.edge.props fits.props.1))
+        (subst (λ (ps : List HeldProp). AllByRecursion (λ (prop : HeldProp). prop.number < length g.types) ps) (sym (parts_are id end holder found g (committed new) sound.agrees one).1) (props_below g.types g.types one.edge.props fits.props.1))
 
   -- it passes just where the edge does
   pub passes_edge : (test : List (List Atom)) {passed : Bool} → passed ≡ passes test (map (name_in names.labels) holder.labels) (map (line_in names.types) holder.props) → PassesEdge id (Some test) end old new passed
   passes_edge test {passed} passed_is = record {
-    looks = looks;
-    passed = λ store g represents agrees.
-        let before = agrees_before looks.stays store agrees in
+    looks = edge_looks id end holder found;
+    is = λ store g represents agrees.
+        let before = agrees_before (edge_looks id end holder found).stays store agrees in
         let one = is.is store g represents before in
         let named_here = named store g represents before in
-        let parts = parts_are found g store agrees one in
+        let parts = parts_are id end holder found g store agrees one in
         let labels : map (name_in names.labels) holder.labels ≡ map (name_in g.labels) one.edge.labels =
         ap (λ (m : MetaHolder). map (name_in m.labels) holder.labels) named_here ∙ ap (map (name_in g.labels)) parts.0 in
         let lines : map (line_in names.types) holder.props ≡ _ =
@@ -124,10 +123,10 @@ module _ {id : ℕ} {end : EdgeRecord} {old new : StoreState Noted} {holder : Ed
   }
 
 -- without a constraint
-pub passes_always : {id : ℕ} {end : EdgeRecord} {old new : StoreState Noted} → new ≡ old → KnowsRecord id end old → PassesEdge id None end old new true
-passes_always {id} {end} {old} {new} same is = record {
+pub passes_always : (id : ℕ) (end : EdgeRecord) {old new : StoreState Noted} → new ≡ old → KnowsRecord id end old → PassesEdge id None end old new true
+passes_always id end {old} {new} same is = record {
   looks = subst (Looks old) (sym same) (record { stays = stays-same; writes = refl });
-  passed = λ store g represents agrees.
+  is = λ store g represents agrees.
       let one = is.is store g represents (subst (λ (state : StoreState Noted). Agrees state.reads store) same agrees) in
       sym (ap (λ o. option_map_or (λ (edge : Edge). passes_test g None edge.labels edge.props) o false) one.there);
 }

@@ -51,12 +51,12 @@ module _ {N : Type 0} where
 
   pub record PassesEdge (id : ℕ) (test : Option (List (List Atom))) (end : EdgeRecord) (old new : StoreState N) (passed : Bool) : Type 0 where
     pub looks : Looks old new
-    pub passed : Everywhere old new (λ g _. passed ≡ passes_at g id test end)
+    pub is : Everywhere old new (λ g _. passed ≡ passes_at g id test end)
 
   pub record ListsEdge (id : ℕ) (dir : Dir) (test : Option (List (List Atom))) (end : EdgeRecord) (before after : List EdgeLine) (old new : StoreState N) : Type 0 where
     pub looks : Looks old new
-    pub lines : Everywhere old new (λ g _. after ≡ before ++ (if is_shown g id dir test end then line_of id end ∷ [] else []))
+    pub shown : Everywhere old new (λ g _. after ≡ before ++ (if is_shown g id dir test end then line_of id end ∷ [] else []))
 
   pub record ListsEdges (id : ℕ) (dir : Dir) (test : Option (List (List Atom))) (records : List EdgeRecord) (old new : StoreState N) (lines : List EdgeLine) : Type 0 where
     pub looks : Looks old new
-    pub lines : Everywhere old new (λ g _. lines ≡ map (line_of id) (filter (is_shown g id dir test) records))
+    pub shown : Everywhere old new (λ g _. lines ≡ map (line_of id) (filter (is_shown g id dir test) records))

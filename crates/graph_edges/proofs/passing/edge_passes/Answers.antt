@@ -8,8 +8,17 @@ use Rattle.graph_edges.proofs.passing.edge_passes.Goals as goal
 
 pub holder_passes-requires-clause-labels : goal.holder_passes-requires-clause-labels
 holder_passes-requires-clause-labels g c =
-    labels_known c.requires.stands c.requires.names c.requires.end c.in_ok-holder.ensures.found (subst IsInRange c.geometry-geometry.ensures c.keeps_ranges.ensures) c.in_ok-holder.ensures.works.went.keeps.sound
+    labels_known c.args.id c.args.edge.now (g.S.Store.state c.args.store.now) (g.S.Store.state c.open_edge.new.store) c.in_ok-holder.holder c.args.names.now c.requires.stands c.requires.names c.requires.end c.in_ok-holder.ensures.found (subst IsInRange c.geometry-geometry.ensures c.keeps_ranges.ensures) c.in_ok-holder.ensures.works.went.keeps.sound
 
 pub holder_passes-requires-clause-types : goal.holder_passes-requires-clause-types
 holder_passes-requires-clause-types g c =
-    props_known c.requires.stands c.requires.names c.requires.end c.in_ok-holder.ensures.found (subst IsInRange c.geometry-geometry.ensures c.keeps_ranges.ensures) c.in_ok-holder.ensures.works.went.keeps.sound
+    props_known c.args.id c.args.edge.now (g.S.Store.state c.args.store.now) (g.S.Store.state c.open_edge.new.store) c.in_ok-holder.holder c.args.names.now c.requires.stands c.requires.names c.requires.end c.in_ok-holder.ensures.found (subst IsInRange c.geometry-geometry.ensures c.keeps_ranges.ensures) c.in_ok-holder.ensures.works.went.keeps.sound
+
+pub returns-in-None-clause-works : goal.returns-in-None-clause-works
+returns-in-None-clause-works g c = record { went = same_went c.stays_sound.ensures.same c.stays_sound.ensures.sound c.stays_sound.ensures.explained_still; fell = tt }
+
+pub returns-in-None-clause-passed : goal.returns-in-None-clause-passed
+returns-in-None-clause-passed g c = ?
+
+pub returns-in-Ok-clause-passed : goal.returns-in-Ok-clause-passed
+returns-in-Ok-clause-passed g c = ?
