@@ -63,7 +63,7 @@ module _ {N : Type 0} (Holds : Graph → Contents → Type 0) where
 
 -- ---- the labels and properties of an edge
 
-module _ (id : ℕ) (end : EdgeRecord) {old new : StoreState Noted} (holder : EdgeHolder) (found : FindsEdge id end old new holder) where
+module _ (id : ℕ) (end : EdgeRecord) (old new : StoreState Noted) (holder : EdgeHolder) (found : FindsEdge id end old new holder) where
   pub parts_are : (g : Graph) (store : Contents) → Agrees new.reads store → (is : IsOfEdge id end g (overlay store old.writes)) → (holder.labels ≡ is.edge.labels) × (holder.props ≡ held_props g.types is.edge.props)
   parts_are g store agrees is = cases end.form found is.told
     where
@@ -98,13 +98,13 @@ module _ (id : ℕ) (end : EdgeRecord) (old new : StoreState Noted) (holder : Ed
     pub labels_known : AllByRecursion (λ n. n < length names.labels) holder.labels
     labels_known =
         subst (λ (ns : List Name). AllByRecursion (λ n. n < length ns) holder.labels) (sym (ap (λ (m : MetaHolder). m.labels) names_are))
-        (subst (λ (ls : List ℕ). AllByRecursion (λ n. n < length somewhere.graph.labels) ls) (sym (parts_are id end holder found somewhere.graph (committed new) sound.agrees one).0) fits.labels.1)
+        (subst (λ (ls : List ℕ). AllByRecursion (λ n. n < length somewhere.graph.labels) ls) (sym (parts_are id end old new holder found somewhere.graph (committed new) sound.agrees one).0) fits.labels.1)
 
     pub props_known : AllByRecursion (λ prop. prop.number < length names.types) holder.props
     props_known =
         let g = somewhere.graph in
         subst (λ (n : ℕ). AllByRecursion (λ (prop : HeldProp). prop.number < n) holder.props) (sym (ap (λ (m : MetaHolder). length m.types) names_are ∙ same_length g))
-        (subst (λ (ps : List HeldProp). AllByRecursion (λ (prop : HeldProp). prop.number < length g.types) ps) (sym (parts_are id end holder found g (committed new) sound.agrees one).1) (props_below g.types g.types one.edge.props fits.props.1))
+        (subst (λ (ps : List HeldProp). AllByRecursion (λ (prop : HeldProp). prop.number < length g.types) ps) (sym (parts_are id end old new holder found g (committed new) sound.agrees one).1) (props_below g.types g.types one.edge.props fits.props.1))
 
   -- it passes just where the edge does
   pub passes_edge : (test : List (List Atom)) {passed : Bool} → passed ≡ passes test (map (name_in names.labels) holder.labels) (map (line_in names.types) holder.props) → PassesEdge id (Some test) end old new passed
@@ -114,7 +114,7 @@ module _ (id : ℕ) (end : EdgeRecord) (old new : StoreState Noted) (holder : Ed
         let before = agrees_before (edge_looks id end holder found).stays store agrees in
         let one = is.is store g represents before in
         let named_here = named store g represents before in
-        let parts = parts_are id end holder found g store agrees one in
+        let parts = parts_are id end old new holder found g store agrees one in
         let labels : map (name_in names.labels) holder.labels ≡ map (name_in g.labels) one.edge.labels =
         ap (λ (m : MetaHolder). map (name_in m.labels) holder.labels) named_here ∙ ap (map (name_in g.labels)) parts.0 in
         let lines : map (line_in names.types) holder.props ≡ _ =

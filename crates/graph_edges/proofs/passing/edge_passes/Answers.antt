@@ -1,4 +1,4 @@
-use Rattle.std.proofs.Common.{subst, sym, ap, ◌∙◌, ◌≡◌, Option, List, Some}
+use Rattle.std.proofs.Common.{List, Option, subst, sym, true}
 use Rattle.gdi_kinds.specs.declared.constraint.Atom.{Atom}
 use Rattle.rma_layout.specs.Ranges.{IsInRange}
 use Rattle.object_store.proofs.Works.{same_went, went-gave_up}
@@ -18,7 +18,16 @@ pub returns-in-None-clause-works : goal.returns-in-None-clause-works
 returns-in-None-clause-works g c = record { went = same_went c.stays_sound.ensures.same c.stays_sound.ensures.sound c.stays_sound.ensures.explained_still; fell = tt }
 
 pub returns-in-None-clause-passed : goal.returns-in-None-clause-passed
-returns-in-None-clause-passed g c = ?
+returns-in-None-clause-passed g c =
+    subst (λ (test : Option (List (List Atom))). PassesEdge c.args.id test c.args.edge.now (g.S.Store.state c.args.store.now) (g.S.Store.state c.stays_sound.new.self) true) (sym c.in-None.is)
+    (passes_always c.args.id c.args.edge.now c.stays_sound.ensures.same c.requires.end)
 
 pub returns-in-Ok-clause-passed : goal.returns-in-Ok-clause-passed
-returns-in-Ok-clause-passed g c = ?
+returns-in-Ok-clause-passed g c =
+    let old = g.S.Store.state c.args.store.now in
+    let new = g.S.Store.state c.open_edge.new.store in
+    subst (λ (test : Option (List (List Atom))). PassesEdge c.args.id test c.args.edge.now old new c.in-Ok.passed) (sym c.in-Some.is)
+    (passes_edge c.args.id c.args.edge.now old new c.in_ok-holder.holder c.args.names.now c.requires.stands c.requires.names c.requires.end c.in_ok-holder.ensures.found c.in-Some.test c.in-Ok.ensures)
+
+pub returns-clause-works : goal.returns-clause-works
+returns-clause-works g c = record { went = tt; fell = went-gave_up c.in_ok-holder.ensures.works.went c.give_up.ensures }
