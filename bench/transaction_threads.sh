@@ -4,7 +4,7 @@
 # two of them, 200,000 times in each thread. The throughput beside one thread is the number of threads, times what one thread
 # took, by what they took. They are proved and built in a copy of the crates, which is made for this and thrown away; where
 # the libraries below weren't built here before, they are proved first, and that takes long. Give how often it is run. Run
-# it on a quiet machine with four processors.
+# it on a quiet machine with four processors. It has not been run yet.
 set -eu
 top=$(cd "$(dirname "$0")/.." && pwd)
 folder=$(mktemp -d)
@@ -152,10 +152,39 @@ fn store_over<'a>(alloc: Global, window: &'a Window<Anything>, rank: Rank<Anythi
 }
 
 #[test]
-fn costs(rt: HostRuntime) -> Result<(), Fail> {
+fn one_thread(rt: HostRuntime) -> Result<(), Fail> {
     let alloc = rt.alloc();
-    let geometry = Geometry::new(4, 2048, 32, 1200, 2)?;
-    let (window, mut first) = Window::<Anything>::new(alloc, geometry)?;
+    let (window, first) = Window::<Anything>::new(alloc, Geometry::new(1, 2048, 32, 1200, 2)?)?;
+    let mut a = store_over(alloc, &window, first);
+    let start = Instant::now(&rt)?;
+    let done = work(&mut a, alloc, 0, 200_000);
+    let took = start.elapsed(&rt)?.as_millis();
+    println!(rt; "1 thread {took} ms, {done}")?;
+    Ok(())
+}
+
+#[test]
+fn two_threads(rt: HostRuntime) -> Result<(), Fail> {
+    let alloc = rt.alloc();
+    let (window, mut first) = Window::<Anything>::new(alloc, Geometry::new(2, 2048, 32, 1200, 2)?)?;
+    let second = first.split(&window, 1, 1_000_000, alloc)?;
+    let mut a = store_over(alloc, &window, first);
+    let mut b = store_over(alloc, &window, second);
+    let start = Instant::now(&rt)?;
+    let (x, y) = join_mut(
+        &rt,
+        &mut || work(&mut a, alloc, 0, 200_000),
+        &mut || work(&mut b, alloc, 1, 200_000),
+    );
+    let took = start.elapsed(&rt)?.as_millis();
+    println!(rt; "2 threads {took} ms, {x} {y}")?;
+    Ok(())
+}
+
+#[test]
+fn four_threads(rt: HostRuntime) -> Result<(), Fail> {
+    let alloc = rt.alloc();
+    let (window, mut first) = Window::<Anything>::new(alloc, Geometry::new(4, 2048, 32, 1200, 2)?)?;
     let second = first.split(&window, 1, 1_000_000, alloc)?;
     let third = first.split(&window, 2, 1_000_000, alloc)?;
     let fourth = first.split(&window, 3, 1_000_000, alloc)?;
@@ -163,18 +192,6 @@ fn costs(rt: HostRuntime) -> Result<(), Fail> {
     let mut b = store_over(alloc, &window, second);
     let mut c = store_over(alloc, &window, third);
     let mut d = store_over(alloc, &window, fourth);
-    let start = Instant::now(&rt)?;
-    let alone = work(&mut a, alloc, 0, 200_000);
-    let one = start.elapsed(&rt)?.as_millis();
-    println!(rt; "1 thread {one} ms, {alone}")?;
-    let start = Instant::now(&rt)?;
-    let (x, y) = join_mut(
-        &rt,
-        &mut || work(&mut a, alloc, 0, 200_000),
-        &mut || work(&mut b, alloc, 1, 200_000),
-    );
-    let two = start.elapsed(&rt)?.as_millis();
-    println!(rt; "2 threads {two} ms, {x} {y}")?;
     let start = Instant::now(&rt)?;
     let ((x, y), (z, w)) = join_mut(
         &rt,
@@ -193,15 +210,15 @@ fn costs(rt: HostRuntime) -> Result<(), Fail> {
             )
         },
     );
-    let four = start.elapsed(&rt)?.as_millis();
-    println!(rt; "4 threads {four} ms, {x} {y} {z} {w}")?;
+    let took = start.elapsed(&rt)?.as_millis();
+    println!(rt; "4 threads {took} ms, {x} {y} {z} {w}")?;
     Ok(())
 }
 END
 cd "$crate"
 rt test >"$folder/log" 2>&1 || { tail -n 20 "$folder/log" >&2; exit 1; }
 for _ in $(seq "${1:-3}"); do
-    ./out/thread_costs_tests cost::costs | grep -a ' ms, ' | awk '
+    for test in one_thread two_threads four_threads; do ./out/thread_costs_tests "cost::$test"; done | grep -a ' ms, ' | awk '
         { print }
         /^1 / { one = $3 }
         /^[24] / { printf "%s threads: %.2f times the throughput of one\n", $1, $1 * one / $3 }'
