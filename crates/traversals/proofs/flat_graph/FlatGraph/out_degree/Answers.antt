@@ -5,10 +5,10 @@ use Rattle.traversals.specs.Outline.{Outline}
 use Rattle.traversals.proofs.flat_graph.FlatGraph.out_degree.Goals as goal
 
 pub at-requires : goal.at-requires
-at-requires c = omega (arith, c.requires, ap (λ (o : Outline). length o.ids) c.self.view_is, c.self.invariant.1.1.1.1.0)
+at-requires c = omega (arith, c.requires, ap (λ (o : Outline). length o.ids) c.self.view_is, c.self.invariant.4)
 
 pub returns : goal.returns
 returns c = record {
   value = sym (ap (λ (o : Outline). slice_get o.out c.args.place) c.self.view_is) ∙ c.at.ensures;
-  few = omega (arith, get_or_from_slice_get c.self.inside.out c.args.place c.at.result.now 0 c.at.ensures, c.self.invariant.1.1.1.1.1.1.0 c.args.place);
+  few = omega (arith, get_or_from_slice_get c.self.inside.out c.args.place c.at.result.now 0 c.at.ensures, c.self.invariant.6 c.args.place);
 }
