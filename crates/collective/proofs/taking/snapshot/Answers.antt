@@ -33,15 +33,16 @@ returns-in-Ok-clause-left g c =
     let copied = c.copy-copied.new.rank.view in
     let placed = c.place-place.new.self.view in
     let gone = c.all_leave.new.self.view in
-    left idle entered copied placed gone c.place-place.result c.requires.idle c.else-enter.ensures.view c.copy-copied.ensures.adds c.place-place.ensures.view c.all_leave.ensures.view
+
+    left idle entered copied placed gone c.place-place.result c.requires.idle c.in_default.ensures.view c.copy-copied.ensures.adds c.place-place.ensures.view c.all_leave.ensures.view
     (follows_trans idle placed gone (follows_trans idle copied placed (follows_trans idle entered copied c.enter.ensures.follows c.copy-copied.ensures.adds.follows) c.place-place.ensures.follows) c.all_leave.ensures.follows)
 
-pub returns-clause-refused : goal.returns-clause-refused
-returns-clause-refused g c =
+pub returns-in-Err-copied-clause-refused : goal.returns-in-Err-copied-clause-refused
+returns-in-Err-copied-clause-refused g c =
     let idle = c.args.rank.now.view in
     let entered = c.enter.new.rank.view in
     let copied = c.copy-copied.new.rank.view in
     let placed = c.place-place.new.self.view in
     let gone = c.all_leave.new.self.view in
-    left idle entered copied placed gone c.place-place.result c.requires.idle c.else-enter.ensures.view c.copy-copied.ensures.adds c.place-place.ensures.view c.all_leave.ensures.view
+    left idle entered copied placed gone c.place-place.result c.requires.idle c.in_default.ensures.view c.copy-copied.ensures.adds c.place-place.ensures.view c.all_leave.ensures.view
     (follows_trans idle placed gone (follows_trans idle copied placed (follows_trans idle entered copied c.enter.ensures.follows c.copy-copied.ensures.adds.follows) c.place-place.ensures.follows) c.all_leave.ensures.follows)
