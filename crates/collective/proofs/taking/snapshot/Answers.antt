@@ -33,7 +33,6 @@ returns-in-Ok-clause-left g c =
     let copied = c.copy-copied.new.rank.view in
     let placed = c.place-place.new.self.view in
     let gone = c.all_leave.new.self.view in
-
     left idle entered copied placed gone c.place-place.result c.requires.idle c.in_default.ensures.view c.copy-copied.ensures.adds c.place-place.ensures.view c.all_leave.ensures.view
     (follows_trans idle placed gone (follows_trans idle copied placed (follows_trans idle entered copied c.enter.ensures.follows c.copy-copied.ensures.adds.follows) c.place-place.ensures.follows) c.all_leave.ensures.follows)
 
